@@ -1,0 +1,14 @@
+-- `frame_control::FrameControlRead::outcome` meets its contract: each case has its number and length.
+-- Assumes nothing.
+use borrow.Author.Needs.{needs}
+use Rattle.frame_control.proofs.FrameControlRead.outcome.Statement.{statement}
+use Rattle.frame_control.proofs.FrameControlRead.outcome.Tie as tie
+
+pub outcome-spec : {M : Type 1} → statement M
+outcome-spec =
+    tie.close
+    (tie.spec (λ c. search needs) (λ c. search needs) (λ c. search needs) (λ c. search needs) (λ c. search needs)
+    (λ c. rw (c .enum-told .given .1))
+    (λ c. rw (c .before .before .before .self .given .1, c .enum-told2 .given .1))
+    (λ c. rw (c .before .before .before .self .given .1, c .enum-told3 .given .1))
+    (λ c. rw (c .before .before .before .self .given .1, c .enum-told4 .given .1)))

@@ -1,0 +1,4 @@
+pub mod Types
+pub mod Versions
+pub mod Modes
+pub mod Control

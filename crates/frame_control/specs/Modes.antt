@@ -1,0 +1,32 @@
+-- Address modes and their bits: document 01, "Modes are 0 none, 2 short, 3 extended" (IEEE 802.15.4-2011, 5.2.1.1.6 and 5.2.1.1.8).
+use Prim.Native.Nat.{ℕ}
+use mathlib.Core.List.{List, [], _∷_}
+use Rattle.octets.specs.declared.Outcome.{Outcome}
+use Rattle.octets.specs.Bits.{find}
+use Rattle.octets.specs.Outcome.{accepted, refused}
+use Rattle.frame_control.specs.declared.AddressMode.{AddressMode}
+use Rattle.frame_control.specs.declared.AddressMode.the-variants.{None, Short, Extended}
+use Rattle.frame_control.specs.declared.AddressModeRead.{AddressModeRead}
+use Rattle.frame_control.specs.declared.AddressModeRead.the-variants.{Read, Refused}
+
+abbrev pub modes : List (ℕ × AddressMode)
+modes = (0, None) ∷ (2, Short) ∷ (3, Extended) ∷ []
+
+-- the mode of a number, refused where it is not listed
+unfoldable pub modeOf : ℕ → AddressModeRead
+modeOf n = find modes Refused Read n
+
+abbrev pub modeBits : AddressMode → ℕ
+modeBits None = 0
+modeBits Short = 2
+modeBits Extended = 3
+
+-- bits are no bytes of a slice: the length is 0
+abbrev pub modeOutcome : AddressModeRead → Outcome
+modeOutcome (Read m) = accepted 0
+modeOutcome Refused = refused 4
+
+-- what follows where it is refused, and where it is known
+abbrev pub mode? : {A : Type 0} → AddressModeRead → A → (AddressMode → A) → A
+mode? Refused other then = other
+mode? (Read m) other then = then m

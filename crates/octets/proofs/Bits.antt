@@ -1,0 +1,47 @@
+-- Laws of the bits of a number.
+-- Assumes nothing.
+use Prim.Native.Nat.{ℕ, zero, suc, _+_, _*_, _%_, _^_, _<_}
+use native.Mathlib.Nat.{mul-comm}
+use native.Mathlib.Omega.{arith}
+use mathlib.Core.Bool.{Bool, true, false}
+use mathlib.Core.List.{List, [], _∷_}
+use mathlib.Core.Logic.{_⊎_, inl, inr}
+use mathlib.Core.Path.{_≡_, refl, sym, _∙_}
+use borrow.Author.Tests.{eqb-true}
+use lib.Arith.{mod-mul}
+use lib.Dec.{eqb}
+use lib.Pow.{pow-add, pow-pos}
+use Rattle.octets.specs.Bits.{bits, bitOf, find}
+use Rattle.octets.proofs.Order.{cases, holds?}
+
+-- a flag to a bit and back
+pub bit-back : (flag : Bool) → eqb (bitOf flag) 1 ≡ flag
+bit-back true = refl
+bit-back false = refl
+
+pub bit-again : (x : ℕ) → x < 2 → bitOf (eqb x 1) ≡ x
+bit-again zero h = refl
+bit-again (suc zero) h = refl
+bit-again (suc (suc x)) h = absurd (omega arith)
+
+pub bit-small : (flag : Bool) → bitOf flag < 2
+bit-small true = omega arith
+bit-small false = omega arith
+
+-- the low bits and the next ones are the low bits of a longer part
+pub bits-join : (w at count : ℕ) → w % 2 ^ (at + count) ≡ bits w at count * 2 ^ at + w % 2 ^ at
+bits-join w at count = rw (pow-add 2 at count, mul-comm (2 ^ at) (2 ^ count)) (mod-mul w (pow-pos count) (pow-pos at))
+
+-- each value of a table stands beside its own bits
+abbrev pub Beside : {A : Type 0} → (A → ℕ) → List (ℕ × A) → Type 0
+Beside bitsOf [] = Unit
+Beside bitsOf (entry ∷ rest) = (bitsOf (entry .1) ≡ entry .0) × Beside bitsOf rest
+
+-- then any number is not listed, or is the bits of the value that is found for it
+pub find-again : {A B : Type 0} (bitsOf : A → ℕ) (table : List (ℕ × A)) (other : B) (make : A → B) (n : ℕ) → Beside bitsOf table →
+    (find table other make n ≡ other) ⊎ ((v : A) × (find table other make n ≡ make v) × (bitsOf v ≡ n))
+find-again bitsOf [] other make n h = inl refl
+find-again bitsOf (entry ∷ rest) other make n h =
+    cases (holds? (eqb n (entry .0)))
+    (λ e. inr (entry .1, simp e, h .0 ∙ sym (eqb-true n (entry .0) e)))
+    (λ e. simp e (find-again bitsOf rest other make n (h .1)))

@@ -1,0 +1,52 @@
+-- Laws of a buffer after stores.
+-- Assumes nothing.
+use Prim.Native.Nat.{ℕ, suc, _+_, _-_, _/_, _%_, _≤_}
+use native.Mathlib.Nat.{add-zero, zero-add, add-suc, suc-add}
+use native.Mathlib.Numerals.{add-one}
+use native.Mathlib.Omega.{arith}
+use mathlib.Core.List.{List, [], _∷_, _++_, append-assoc}
+use mathlib.Core.Path.{_≡_, refl, sym, ap, _∙_}
+use lib.ListN.{length, set, take, drop}
+use lib.Seq.{sets, sets-eq, length-sets}
+use Rattle.octets.specs.Little.{split}
+use Rattle.octets.specs.Buffer.{laid}
+
+-- one turn of a store: the lowest byte at p, the rest from the next place on
+pub store-next : (l : List ℕ) (p q j k v : ℕ) → q ≡ p + 1 → k ≡ j + 1 → laid (set l p (v % 256)) q (split j (v / 256)) ≡ laid l p (split k v)
+unfolding split laid
+store-next l p q j k v e f = rw (e, f, add-one p, add-one j)
+
+-- nothing left to store
+pub store-done : (l : List ℕ) (p k v : ℕ) → k ≡ 0 → laid l p (split k v) ≡ l
+unfolding split laid
+store-done l p k v e = rw e
+
+pub laid-none : (l : List ℕ) (at : ℕ) → laid l at [] ≡ l
+unfolding laid
+laid-none l at = refl
+
+-- a store keeps the length
+pub laid-length : (l : List ℕ) (at : ℕ) (b : List ℕ) → length (laid l at b) ≡ length l
+unfolding laid
+laid-length l at b = length-sets l at b
+
+laid-append : (l : List ℕ) (at : ℕ) (a b : List ℕ) → laid (laid l at a) (at + length a) b ≡ laid l at (a ++ b)
+unfolding laid
+laid-append l at [] b = rw add-zero
+laid-append l at (x ∷ a) b =
+    ap (λ (k : ℕ). sets (sets (set l at x) (suc at) a) k b) (add-suc at (length a) ∙ sym (suc-add at (length a)))
+    ∙ laid-append (set l at x) (suc at) a b
+
+-- one store and the next are one
+pub laid-join : (l : List ℕ) (at next n : ℕ) (a b : List ℕ) → length a ≡ n → next ≡ at + n → laid (laid l at a) next b ≡ laid l at (a ++ b)
+laid-join l at next n a b e f = rw (f, sym e) (laid-append l at a b)
+
+-- a store at a place parts the buffer: what lies before, what was stored, what lies behind
+pub laid-parts : (l : List ℕ) (at : ℕ) (b : List ℕ) → at + length b ≤ length l → laid l at b ≡ take at l ++ (b ++ drop (at + length b) l)
+unfolding laid
+laid-parts l at b h = sets-eq b l at h ∙ append-assoc (take at l) b (drop (at + length b) l)
+
+-- a whole write from the beginning: the bytes, and what lay behind them
+pub laid-all : (l b : List ℕ) (n : ℕ) → length b ≡ n → n ≤ length l → laid l 0 b ≡ b ++ drop n l
+unfolding laid
+laid-all l b n e h = sets-eq b l 0 (omega arith) ∙ ap (λ (k : ℕ). b ++ drop k l) (zero-add (length b) ∙ e)

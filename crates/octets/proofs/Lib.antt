@@ -1,0 +1,5 @@
+pub mod Little
+pub mod Buffer
+pub mod Bits
+pub mod Order
+pub mod Each

@@ -1,0 +1,81 @@
+// Little-endian numbers at a place of a slice, read and stored, and what an answer says in document 01's numbers.
+// The functions that ask for room (`requires`) are building blocks of this project's readers and writers, which measure first.
+ghost use mathlib.Core.Path.{_≡_};
+ghost use Prim.Native.Nat.{_+_, _-_, _≤_, _<_};
+ghost use lib.ListN.{length};
+ghost use Rattle.octets.specs.Bits.{bitOf};
+ghost use Rattle.octets.specs.Buffer.{laid};
+ghost use Rattle.octets.specs.Little.{split, number};
+
+// What an answer says: document 01's number, 0 where it accepts, and the length, 0 where it refuses.
+pub struct Outcome {
+    pub number: u8,
+    pub length: usize,
+}
+
+// How many bytes of s there are from at on, none where at is past its end.
+pub fn left(s: &[u8], at: usize) -> usize
+    ensures { λ r. ⌜ r ≡ length (now (s .entry)) - at ⌝ }
+{
+    if at <= s.len() { s.len() - at } else { 0 }
+}
+
+// A flag as one bit.
+pub fn bit_of(flag: bool) -> u8
+    ensures { λ r. ⌜ (r ≡ bitOf flag) × (r ≤ 1) ⌝ }
+{
+    if flag { 1 } else { 0 }
+}
+
+fn wide(b: u8) -> u16
+    ensures { λ r. ⌜ (r ≡ b) × (r < 256) ⌝ }
+{
+    b as u16
+}
+
+// The byte at a place. Asks that it is there.
+pub fn u8_at(s: &[u8], at: usize) -> u8
+    requires { ⌜ at + 1 ≤ length (now s) ⌝ }
+    ensures { λ r. ⌜ r ≡ number (now (s .entry)) at 1 ⌝ }
+{
+    s[at]
+}
+
+// The number in two bytes. Asks that they are there.
+pub fn u16_at(s: &[u8], at: usize) -> u16
+    requires { ⌜ at + 2 ≤ length (now s) ⌝ }
+    ensures { λ r. ⌜ r ≡ number (now (s .entry)) at 2 ⌝ }
+{
+    wide(s[at]) + 256 * wide(s[at + 1])
+}
+
+// The number in four bytes. Asks that they are there.
+pub fn u32_at(s: &[u8], at: usize) -> u32
+    requires { ⌜ at + 4 ≤ length (now s) ⌝ }
+    ensures { λ r. ⌜ r ≡ number (now (s .entry)) at 4 ⌝ }
+{
+    (u16_at(s, at) as u32) + 0x1_0000 * (u16_at(s, at + 2) as u32)
+}
+
+// The number in eight bytes. Asks that they are there.
+pub fn u64_at(s: &[u8], at: usize) -> u64
+    requires { ⌜ at + 8 ≤ length (now s) ⌝ }
+    ensures { λ r. ⌜ r ≡ number (now (s .entry)) at 8 ⌝ }
+{
+    (u32_at(s, at) as u64) + 0x1_0000_0000 * (u32_at(s, at + 4) as u64)
+}
+
+// Stores the n low bytes of v from at on, the lowest first, and returns the place behind them. Asks for that room.
+pub fn put(out: &mut [u8], at: usize, n: usize, v: u64) -> usize
+    requires { ⌜ at + n ≤ length (now out) ⌝ }
+    ensures { λ r. ⌜ (r ≡ at + n) × (now (out .exit) ≡ laid (now (out .entry)) at (split n v)) ⌝ }
+{
+    let mut rest = v;
+    let mut i = 0;
+    while i < n {
+        out[at + i] = (rest % 256) as u8;
+        rest = rest / 256;
+        i += 1;
+    }
+    at + n
+}
