@@ -3,3 +3,4 @@ pub mod Buffer
 pub mod Bits
 pub mod Order
 pub mod Each
+pub mod Part

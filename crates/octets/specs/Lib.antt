@@ -3,3 +3,4 @@ pub mod Buffer
 pub mod Bits
 pub mod Order
 pub mod Outcome
+pub mod Part

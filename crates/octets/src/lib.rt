@@ -4,13 +4,37 @@ ghost use mathlib.Core.Path.{_≡_};
 ghost use Prim.Native.Nat.{_+_, _-_, _≤_, _<_};
 ghost use lib.ListN.{length};
 ghost use Rattle.octets.specs.Bits.{bitOf};
-ghost use Rattle.octets.specs.Buffer.{laid};
+ghost use Rattle.octets.specs.Buffer.{laid, after};
 ghost use Rattle.octets.specs.Little.{split, number};
+ghost use Rattle.octets.specs.Part.{writePart, partOutcome};
 
 // What an answer says: document 01's number, 0 where it accepts, and the length, 0 where it refuses.
 pub struct Outcome {
     pub number: u8,
     pub length: usize,
+}
+
+// What writing a part answers that can only lack room: its length, or refusal 1.
+pub enum PartWritten {
+    Written(usize),
+    Full,
+}
+
+impl PartWritten {
+    pub fn outcome(self) -> Outcome
+        ensures { λ r. ⌜ r ≡ partOutcome self ⌝ }
+    {
+        match self {
+            PartWritten::Written(n) => Outcome {
+                number: 0,
+                length: n,
+            },
+            PartWritten::Full => Outcome {
+                number: 1,
+                length: 0,
+            },
+        }
+    }
 }
 
 // How many bytes of s there are from at on, none where at is past its end.
@@ -67,7 +91,7 @@ pub fn u64_at(s: &[u8], at: usize) -> u64
 
 // Stores the n low bytes of v from at on, the lowest first, and returns the place behind them. Asks for that room.
 pub fn put(out: &mut [u8], at: usize, n: usize, v: u64) -> usize
-    requires { ⌜ at + n ≤ length (now out) ⌝ }
+    requires { ⌜ n ≤ length (now out) - at ⌝ }
     ensures { λ r. ⌜ (r ≡ at + n) × (now (out .exit) ≡ laid (now (out .entry)) at (split n v)) ⌝ }
 {
     let mut rest = v;
@@ -78,4 +102,15 @@ pub fn put(out: &mut [u8], at: usize, n: usize, v: u64) -> usize
         i += 1;
     }
     at + n
+}
+
+// Writes the n low bytes of v at a place, the lowest first, or nothing where they have no room.
+pub fn write_number(out: &mut [u8], at: usize, n: usize, v: u64) -> PartWritten
+    ensures { λ r. ⌜ (r ≡ writePart (now (out .entry)) at n) × (now (out .exit) ≡ after (partOutcome r) (now (out .entry)) at (split n v)) ⌝ }
+{
+    if left(out, at) < n {
+        return PartWritten::Full;
+    }
+    put(out, at, n, v);
+    PartWritten::Written(n)
 }

@@ -1,0 +1,22 @@
+-- The extended address: eight bytes, little-endian (document 01, "Header layout").
+use Prim.Native.Nat.{ℕ}
+use mathlib.Core.List.{List, [], _∷_}
+use Rattle.octets.specs.declared.Outcome.{Outcome}
+use Rattle.octets.specs.Little.{number}
+use Rattle.octets.specs.Order.{first}
+use Rattle.octets.specs.Outcome.{accepted, refused}
+use Rattle.octets.specs.Part.{ends}
+use Rattle.identifiers.specs.declared.ExtendedAddress.{ExtendedAddress}
+use Rattle.identifiers.specs.declared.ExtendedAddressRead.{ExtendedAddressRead}
+use Rattle.identifiers.specs.declared.ExtendedAddressRead.the-variants.{Read, Ended}
+
+abbrev pub extended : ℕ → ExtendedAddress
+extended n = record { 0 = n }
+
+-- the extended address at a place
+unfoldable pub readExtended : List ℕ → ℕ → ExtendedAddressRead
+readExtended s at = first ((ends s at 8, Ended) ∷ []) (Read (extended (number s at 8)))
+
+abbrev pub extendedOutcome : ExtendedAddressRead → Outcome
+extendedOutcome (Read x) = accepted 8
+extendedOutcome Ended = refused 1

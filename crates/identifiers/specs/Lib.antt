@@ -1,0 +1,3 @@
+pub mod PanId
+pub mod ShortAddress
+pub mod ExtendedAddress

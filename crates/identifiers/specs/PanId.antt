@@ -1,0 +1,22 @@
+-- The PAN id: two bytes, little-endian (document 01, "Header layout").
+use Prim.Native.Nat.{ℕ}
+use mathlib.Core.List.{List, [], _∷_}
+use Rattle.octets.specs.declared.Outcome.{Outcome}
+use Rattle.octets.specs.Little.{number}
+use Rattle.octets.specs.Order.{first}
+use Rattle.octets.specs.Outcome.{accepted, refused}
+use Rattle.octets.specs.Part.{ends}
+use Rattle.identifiers.specs.declared.PanId.{PanId}
+use Rattle.identifiers.specs.declared.PanIdRead.{PanIdRead}
+use Rattle.identifiers.specs.declared.PanIdRead.the-variants.{Read, Ended}
+
+abbrev pub pan : ℕ → PanId
+pan n = record { 0 = n }
+
+-- the PAN id at a place
+unfoldable pub readPanId : List ℕ → ℕ → PanIdRead
+readPanId s at = first ((ends s at 2, Ended) ∷ []) (Read (pan (number s at 2)))
+
+abbrev pub panIdOutcome : PanIdRead → Outcome
+panIdOutcome (Read x) = accepted 2
+panIdOutcome Ended = refused 1

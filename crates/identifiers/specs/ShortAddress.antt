@@ -1,0 +1,22 @@
+-- The short address: two bytes, little-endian (document 01, "Header layout").
+use Prim.Native.Nat.{ℕ}
+use mathlib.Core.List.{List, [], _∷_}
+use Rattle.octets.specs.declared.Outcome.{Outcome}
+use Rattle.octets.specs.Little.{number}
+use Rattle.octets.specs.Order.{first}
+use Rattle.octets.specs.Outcome.{accepted, refused}
+use Rattle.octets.specs.Part.{ends}
+use Rattle.identifiers.specs.declared.ShortAddress.{ShortAddress}
+use Rattle.identifiers.specs.declared.ShortAddressRead.{ShortAddressRead}
+use Rattle.identifiers.specs.declared.ShortAddressRead.the-variants.{Read, Ended}
+
+abbrev pub short : ℕ → ShortAddress
+short n = record { 0 = n }
+
+-- the short address at a place
+unfoldable pub readShort : List ℕ → ℕ → ShortAddressRead
+readShort s at = first ((ends s at 2, Ended) ∷ []) (Read (short (number s at 2)))
+
+abbrev pub shortOutcome : ShortAddressRead → Outcome
+shortOutcome (Read x) = accepted 2
+shortOutcome Ended = refused 1
