@@ -1,0 +1,178 @@
+// An address with its PAN id, which may be absent: its mode, its length and its bytes, with the PAN id in the frame (own) or shared.
+// `address_at` and `put_address` are building blocks of the header's reader and writer, which measure first: they ask for the bytes or the room.
+ghost use mathlib.Core.Path.{_≡_};
+ghost use Prim.Native.Nat.{_+_, _-_, _≤_};
+ghost use lib.ListN.{length};
+ghost use mathlib.Core.List.{_++_};
+ghost use Rattle.octets.specs.Buffer.{laid};
+ghost use Rattle.octets.specs.Little.{split};
+ghost use Rattle.address.specs.Address.{panOf, modeOfAddress, modeOf, sharedPan, broadcastOf};
+ghost use Rattle.address.specs.Layout.{panLength, modeLength, addressLength, panIn, addressIn, panBytes, addressBytes};
+use frame_control::AddressMode;
+use identifiers::ExtendedAddress;
+use identifiers::PanId;
+use identifiers::ShortAddress;
+use octets::put;
+use octets::u16_at;
+use octets::u64_at;
+
+pub enum Address {
+    Short(PanId, ShortAddress),
+    Extended(PanId, ExtendedAddress),
+}
+
+pub enum OptionalAddress {
+    Absent,
+    Present(Address),
+}
+
+impl Address {
+    pub fn pan_id(self) -> PanId
+        ensures { λ r. ⌜ r ≡ panOf self ⌝ }
+    {
+        match self {
+            Address::Short(pan_id, _) => pan_id,
+            Address::Extended(pan_id, _) => pan_id,
+        }
+    }
+
+    pub fn mode(self) -> AddressMode
+        ensures { λ r. ⌜ r ≡ modeOfAddress self ⌝ }
+    {
+        match self {
+            Address::Short(_, _) => AddressMode::Short,
+            Address::Extended(_, _) => AddressMode::Extended,
+        }
+    }
+
+    // The address that all of a mode's devices hear, none for the mode without one.
+    pub fn broadcast(mode: AddressMode) -> OptionalAddress
+        ensures { λ r. ⌜ r ≡ broadcastOf mode ⌝ }
+    {
+        match mode {
+            AddressMode::None => OptionalAddress::Absent,
+            AddressMode::Short => {
+                OptionalAddress::Present(Address::Short(PanId::BROADCAST, ShortAddress::BROADCAST))
+            }
+            AddressMode::Extended => {
+                OptionalAddress::Present(Address::Extended(
+                    PanId::BROADCAST,
+                    ExtendedAddress::BROADCAST,
+                ))
+            }
+        }
+    }
+}
+
+impl OptionalAddress {
+    pub fn mode(self) -> AddressMode
+        ensures { λ r. ⌜ r ≡ modeOf self ⌝ }
+    {
+        match self {
+            OptionalAddress::Absent => AddressMode::None,
+            OptionalAddress::Present(address) => address.mode(),
+        }
+    }
+
+    // The PAN id that a compressed source shares with this destination; 0 where there is none to share.
+    pub fn shared_pan(self) -> PanId
+        ensures { λ r. ⌜ r ≡ sharedPan self ⌝ }
+    {
+        match self {
+            OptionalAddress::Absent => PanId(0),
+            OptionalAddress::Present(address) => address.pan_id(),
+        }
+    }
+
+    // How many bytes it takes in a frame, with its own PAN id or without.
+    pub fn octets(self, own: bool) -> usize
+        ensures { λ r. ⌜ (r ≡ addressLength own self) × (r ≤ 10) ⌝ }
+    {
+        mode_octets(self.mode(), own)
+    }
+}
+
+fn pan_octets(own: bool) -> usize
+    ensures { λ r. ⌜ (r ≡ panLength own) × (r ≤ 2) ⌝ }
+{
+    if own { 2 } else { 0 }
+}
+
+// How many bytes an address of a mode takes, with its own PAN id or without.
+pub fn mode_octets(mode: AddressMode, own: bool) -> usize
+    ensures { λ r. ⌜ (r ≡ modeLength own mode) × (r ≤ 10) ⌝ }
+{
+    match mode {
+        AddressMode::None => 0,
+        AddressMode::Short => pan_octets(own) + 2,
+        AddressMode::Extended => pan_octets(own) + 8,
+    }
+}
+
+// The PAN id at a place where it is in the frame, else the shared one. Asks for its bytes.
+fn pan_at(s: &[u8], at: usize, own: bool, shared: PanId) -> PanId
+    requires { ⌜ at + panLength own ≤ length (now s) ⌝ }
+    ensures { λ r. ⌜ r ≡ panIn own shared (now (s .entry)) at ⌝ }
+{
+    if own { PanId(u16_at(s, at)) } else { shared }
+}
+
+// The address of a mode at a place. Asks that its bytes are there.
+pub fn address_at(
+    s: &[u8],
+    at: usize,
+    mode: AddressMode,
+    own: bool,
+    shared: PanId,
+) -> OptionalAddress
+    requires { ⌜ at + modeLength own mode ≤ length (now s) ⌝ }
+    ensures { λ r. ⌜ r ≡ addressIn own shared mode (now (s .entry)) at ⌝ }
+{
+    match mode {
+        AddressMode::None => OptionalAddress::Absent,
+        AddressMode::Short => {
+            let pan_id = pan_at(s, at, own, shared);
+            let short = u16_at(s, at + pan_octets(own));
+            OptionalAddress::Present(Address::Short(pan_id, ShortAddress(short)))
+        }
+        AddressMode::Extended => {
+            let pan_id = pan_at(s, at, own, shared);
+            let extended = u64_at(s, at + pan_octets(own));
+            OptionalAddress::Present(Address::Extended(pan_id, ExtendedAddress(extended)))
+        }
+    }
+}
+
+fn put_pan(out: &mut [u8], at: usize, own: bool, pan_id: PanId) -> usize
+    requires { ⌜ at + panLength own ≤ length (now out) ⌝ }
+    ensures { λ r. ⌜ (r ≡ at + panLength own) × (now (out .exit) ≡ laid (now (out .entry)) at (panBytes own «pan_id»)) ⌝ }
+{
+    if own {
+        put(out, at, 2, pan_id.0 as u64)
+    } else {
+        at
+    }
+}
+
+// A PAN id, where it is in the frame, and then an address of n bytes.
+fn put_pair(out: &mut [u8], at: usize, own: bool, pan_id: PanId, n: usize, v: u64) -> usize
+    requires { ⌜ (n ≤ 8) × (at + (panLength own + n) ≤ length (now out)) ⌝ }
+    ensures { λ r. ⌜ (r ≡ at + (panLength own + n)) × (now (out .exit) ≡ laid (now (out .entry)) at (panBytes own «pan_id» ++ split n v)) ⌝ }
+{
+    let next = put_pan(out, at, own, pan_id);
+    put(out, next, n, v)
+}
+
+// Stores an address at a place and returns the place behind it. Asks for its room.
+pub fn put_address(out: &mut [u8], at: usize, address: OptionalAddress, own: bool) -> usize
+    requires { ⌜ at + addressLength own address ≤ length (now out) ⌝ }
+    ensures { λ r. ⌜ (r ≡ at + addressLength own address) × (now (out .exit) ≡ laid (now (out .entry)) at (addressBytes own address)) ⌝ }
+{
+    let OptionalAddress::Present(present) = address else {
+        return at;
+    };
+    match present {
+        Address::Short(pan_id, short) => put_pair(out, at, own, pan_id, 2, short.0 as u64),
+        Address::Extended(pan_id, extended) => put_pair(out, at, own, pan_id, 8, extended.0),
+    }
+}
