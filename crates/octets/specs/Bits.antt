@@ -3,6 +3,7 @@ use Prim.Native.Nat.{ℕ, _-_, _*_, _/_, _%_, _^_}
 use mathlib.Core.Bool.{Bool, true, false, cond}
 use mathlib.Core.List.{List, [], _∷_}
 use lib.Dec.{eqb}
+use lib.ListN.{getD, set}
 
 -- the count bits of w from bit at on, as a number
 abbrev pub bits : ℕ → ℕ → ℕ → ℕ
@@ -20,6 +21,10 @@ bitOf true = 1
 -- w with the count bits from bit at on cleared
 abbrev pub clear : ℕ → ℕ → ℕ → ℕ
 clear at count w = w - bits w at count * 2 ^ at
+
+-- a list of bytes with those bits of the byte at a place cleared
+abbrev pub clearAt : ℕ → ℕ → ℕ → List ℕ → List ℕ
+clearAt place at count s = set s place (clear at count (getD s place 0))
 
 -- what is made of the value listed beside n, or other where n is not listed
 abbrev pub find : {A B : Type 0} → List (ℕ × A) → B → (A → B) → ℕ → B

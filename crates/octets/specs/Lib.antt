@@ -4,3 +4,4 @@ pub mod Bits
 pub mod Order
 pub mod Outcome
 pub mod Part
+pub mod Value

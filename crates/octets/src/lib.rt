@@ -7,6 +7,7 @@ ghost use Rattle.octets.specs.Bits.{bitOf};
 ghost use Rattle.octets.specs.Buffer.{laid, after};
 ghost use Rattle.octets.specs.Little.{split, number};
 ghost use Rattle.octets.specs.Part.{writePart, partOutcome};
+ghost use Rattle.octets.specs.Value.{valueOutcome};
 
 // What an answer says: document 01's number, 0 where it accepts, and the length, 0 where it refuses.
 pub struct Outcome {
@@ -30,6 +31,34 @@ impl PartWritten {
                 length: n,
             },
             PartWritten::Full => Outcome {
+                number: 1,
+                length: 0,
+            },
+        }
+    }
+}
+
+// What writing a part answers that can hold a value too large for its bits: its length, refusal 8, or refusal 1.
+pub enum ValueWritten {
+    Written(usize),
+    TooLarge,
+    Full,
+}
+
+impl ValueWritten {
+    pub fn outcome(self) -> Outcome
+        ensures { λ r. ⌜ r ≡ valueOutcome self ⌝ }
+    {
+        match self {
+            ValueWritten::Written(n) => Outcome {
+                number: 0,
+                length: n,
+            },
+            ValueWritten::TooLarge => Outcome {
+                number: 8,
+                length: 0,
+            },
+            ValueWritten::Full => Outcome {
                 number: 1,
                 length: 0,
             },

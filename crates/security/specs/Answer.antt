@@ -1,0 +1,48 @@
+-- What reading and writing a security header answers: reading only 1; writing 8, then 7, then 1 (document 01, "Refusal numbers").
+use Prim.Native.Nat.{ℕ}
+use mathlib.Core.Bool.{Bool, true, false}
+use mathlib.Core.List.{List, [], _∷_}
+use lib.Dec.{ltb}
+use Rattle.octets.specs.declared.Outcome.{Outcome}
+use Rattle.octets.specs.Order.{first}
+use Rattle.octets.specs.Outcome.{accepted, refused}
+use Rattle.octets.specs.Part.{ends}
+use Rattle.security.specs.Security.{lengthIn, securityIn, levelOf, securityLength}
+use Rattle.security.specs.declared.AuxiliarySecurityHeader.{AuxiliarySecurityHeader}
+use Rattle.security.specs.declared.OptionalCounter.{OptionalCounter}
+use Rattle.security.specs.declared.OptionalCounter.the-variants.{Absent, Present}
+use Rattle.security.specs.declared.SecurityHeaderRead.{SecurityHeaderRead}
+use Rattle.security.specs.declared.SecurityHeaderRead.the-variants.{Read, Ended}
+use Rattle.security.specs.declared.SecurityHeaderWritten.{SecurityHeaderWritten}
+use Rattle.security.specs.declared.SecurityHeaderWritten.the-variants.{Written, TooLarge, MissingCounter, Full}
+
+unfoldable pub readSecurity : List ℕ → ℕ → SecurityHeaderRead
+readSecurity s at = first ((ends s at (lengthIn s at), Ended) ∷ []) (Read (securityIn s at) (lengthIn s at))
+
+abbrev pub readOutcome : SecurityHeaderRead → Outcome
+readOutcome (Read h n) = accepted n
+readOutcome Ended = refused 1
+
+abbrev pub missing : OptionalCounter → Bool
+missing Absent = true
+missing (Present n) = false
+
+-- the counter that is written; with none, nothing is
+abbrev pub counterOf : OptionalCounter → ℕ
+counterOf Absent = 0
+counterOf (Present n) = n
+
+unfoldable pub writeSecurity : AuxiliarySecurityHeader → OptionalCounter → List ℕ → ℕ → SecurityHeaderWritten
+writeSecurity h counter out at =
+    first
+    ((ltb 7 (levelOf h), TooLarge) ∷
+    (missing counter, MissingCounter) ∷
+    (ends out at (securityLength h), Full) ∷
+    [])
+    (Written (securityLength h))
+
+abbrev pub writtenOutcome : SecurityHeaderWritten → Outcome
+writtenOutcome (Written n) = accepted n
+writtenOutcome TooLarge = refused 8
+writtenOutcome MissingCounter = refused 7
+writtenOutcome Full = refused 1

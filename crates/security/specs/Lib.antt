@@ -1,0 +1,4 @@
+pub mod Key
+pub mod Security
+pub mod Answer
+pub mod RoundTrip

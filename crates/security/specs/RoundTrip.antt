@@ -1,0 +1,1 @@
+-- Demand 3 for a security header: what writing again what was read gives.

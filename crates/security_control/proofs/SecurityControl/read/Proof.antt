@@ -1,0 +1,16 @@
+-- `security_control::SecurityControl::read` meets its contract: its test is the definition's.
+-- Assumes nothing.
+use borrow.Author.Needs.{needs}
+use Rattle.octets.proofs.Part.{fewer, enough}
+use Rattle.security_control.specs.Control.{readControl}
+use Rattle.security_control.proofs.SecurityControl.read.Statement.{statement}
+use Rattle.security_control.proofs.SecurityControl.read.Tie as tie
+
+pub read-spec : {M : Type 1} → statement M
+unfolding readControl
+read-spec =
+    tie.close
+    (tie.spec (λ c κs. search needs)
+    (λ c. simp (fewer (c .before .left .ensures) (c .if1 .taken)))
+    (λ c κs. search needs) (λ c κs. search needs)
+    (λ c. simp (enough (c .before .before .before .left .ensures) (c .before .before .if1 .left), c .from-bits .ensures, c .before .u8-at .ensures)))

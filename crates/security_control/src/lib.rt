@@ -1,0 +1,127 @@
+// The security control byte: security level and key identifier mode.
+ghost use mathlib.Core.Path.{_≡_};
+ghost use Prim.Native.Nat.{_≤_};
+ghost use Rattle.octets.specs.Buffer.{after};
+ghost use Rattle.octets.specs.Little.{split};
+ghost use Rattle.octets.specs.Value.{writeValue, valueOutcome};
+ghost use Rattle.security_control.specs.Control.{keyModeOf, keyModeBits, controlOf, controlIn, controlBits, levelTooLarge, readControl, controlOutcome};
+use octets::Outcome;
+use octets::ValueWritten;
+use octets::left;
+use octets::put;
+use octets::u8_at;
+
+pub enum KeyIdentifierMode {
+    None,
+    KeyIndex,
+    KeySource4,
+    KeySource8,
+}
+
+impl KeyIdentifierMode {
+    // The mode of two bits; a larger number counts as 3.
+    pub fn from_bits(bits: u8) -> KeyIdentifierMode
+        ensures { λ r. ⌜ r ≡ keyModeOf bits ⌝ }
+    {
+        match bits {
+            0 => KeyIdentifierMode::None,
+            1 => KeyIdentifierMode::KeyIndex,
+            2 => KeyIdentifierMode::KeySource4,
+            _ => KeyIdentifierMode::KeySource8,
+        }
+    }
+
+    pub fn to_bits(self) -> u8
+        ensures { λ r. ⌜ (r ≡ keyModeBits self) × (r ≤ 3) ⌝ }
+    {
+        match self {
+            KeyIdentifierMode::None => 0,
+            KeyIdentifierMode::KeyIndex => 1,
+            KeyIdentifierMode::KeySource4 => 2,
+            KeyIdentifierMode::KeySource8 => 3,
+        }
+    }
+}
+
+// The level is a number, of which 0 to 7 can be written.
+pub struct SecurityControl {
+    pub security_level: u8,
+    pub key_id_mode: KeyIdentifierMode,
+}
+
+// What reading it answers: the control, or refusal 1.
+pub enum SecurityControlRead {
+    Read(SecurityControl),
+    Ended,
+}
+
+impl SecurityControlRead {
+    pub fn outcome(self) -> Outcome
+        ensures { λ r. ⌜ r ≡ controlOutcome self ⌝ }
+    {
+        match self {
+            SecurityControlRead::Read(_) => Outcome {
+                number: 0,
+                length: 1,
+            },
+            SecurityControlRead::Ended => Outcome {
+                number: 1,
+                length: 0,
+            },
+        }
+    }
+}
+
+impl SecurityControl {
+    // A level without a key identifier.
+    pub fn new(security_level: u8) -> Self
+        ensures { λ r. ⌜ r ≡ controlOf «security_level» (keyModeOf 0) ⌝ }
+    {
+        SecurityControl {
+            security_level,
+            key_id_mode: KeyIdentifierMode::None,
+        }
+    }
+
+    // What a byte says; its bits 5 to 7 are not looked at.
+    pub fn from_bits(bits: u8) -> SecurityControl
+        ensures { λ r. ⌜ r ≡ controlIn bits ⌝ }
+    {
+        let key_id_mode = KeyIdentifierMode::from_bits(bits / 8 % 4);
+        SecurityControl {
+            security_level: bits % 8,
+            key_id_mode,
+        }
+    }
+
+    // The byte, of a level above 7 only its low three bits.
+    pub fn to_bits(self) -> u8
+        ensures { λ r. ⌜ (r ≡ controlBits self) × (r ≤ 31) ⌝ }
+    {
+        let key_id_mode = self.key_id_mode;
+        self.security_level % 8 + 8 * key_id_mode.to_bits()
+    }
+
+    pub fn read(s: &[u8], at: usize) -> SecurityControlRead
+        ensures { λ r. ⌜ r ≡ readControl (now (s .entry)) at ⌝ }
+    {
+        if left(s, at) < 1 {
+            return SecurityControlRead::Ended;
+        }
+        SecurityControlRead::Read(SecurityControl::from_bits(u8_at(s, at)))
+    }
+
+    // Refuses a level above 7, then a place without room.
+    pub fn write(self, out: &mut [u8], at: usize) -> ValueWritten
+        ensures { λ r. ⌜ (r ≡ writeValue (levelTooLarge self) (now (out .entry)) at 1) × (now (out .exit) ≡ after (valueOutcome r) (now (out .entry)) at (split 1 (controlBits self))) ⌝ }
+    {
+        if 7 < self.security_level {
+            return ValueWritten::TooLarge;
+        }
+        if left(out, at) < 1 {
+            return ValueWritten::Full;
+        }
+        put(out, at, 1, self.to_bits() as u64);
+        ValueWritten::Written(1)
+    }
+}
