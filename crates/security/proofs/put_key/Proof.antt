@@ -5,7 +5,7 @@ use native.Mathlib.Omega.{arith}
 use borrow.Author.Needs.{needs}
 use Rattle.octets.proofs.Buffer.{laid-none, laid-join}
 use Rattle.security.specs.Key.{modeOfKey, keyLength, keyBytes}
-use Rattle.security.proofs.Laws.{source-key, source-length}
+use Rattle.security.proofs.Keys.{source-key, source-length}
 use Rattle.security.proofs.put_key.Statement.{statement}
 use Rattle.security.proofs.put_key.Tie as tie
 
