@@ -31,7 +31,7 @@ same : (g h : AuxiliarySecurityHeader) (m n : ℕ) → Read g m ≡ Read h n →
 same g h m n e = (cc, cc)
 
 -- an accepted security header lies whole in the input
-accepted-whole : (s : List ℕ) (at : ℕ) (h : AuxiliarySecurityHeader) (n : ℕ) → readSecurity s at ≡ Read h n →
+pub accepted-whole : (s : List ℕ) (at : ℕ) (h : AuxiliarySecurityHeader) (n : ℕ) → readSecurity s at ≡ Read h n →
     (at + lengthIn s at ≤ length s) × (securityIn s at ≡ h) × (lengthIn s at ≡ n)
 unfolding readSecurity
 accepted-whole s at h n e =

@@ -1,0 +1,12 @@
+-- `header::HeaderRead::outcome` meets its contract: each case has its number and length.
+-- Assumes nothing.
+use borrow.Author.Needs.{needs}
+use Rattle.header.proofs.HeaderRead.outcome.Statement.{statement}
+use Rattle.header.proofs.HeaderRead.outcome.Tie as tie
+
+pub outcome-spec : {M : Type 1} → statement M
+outcome-spec =
+    tie.close
+    (tie.spec (λ c. search needs) (λ c. search needs) (λ c κs. search needs)
+    (λ c. rw (c .before .self .given .1))
+    (λ c. rw (c .before .before .self2 .given .1, c .number .ensures)))

@@ -1,0 +1,53 @@
+-- The header record: how it is made, whether it is secured, and its two lengths (document 01, "Header layout").
+use Prim.Native.Nat.{ℕ, _+_}
+use mathlib.Core.Bool.{Bool, true, false, not}
+use Rattle.frame_control.specs.declared.FrameControl.{FrameControl}
+use Rattle.address.specs.declared.OptionalAddress.{OptionalAddress}
+use Rattle.address.specs.Layout.{addressLength}
+use Rattle.security.specs.declared.OptionalSecurityHeader.{OptionalSecurityHeader}
+use Rattle.security.specs.declared.OptionalSecurityHeader.the-variants.{Absent, Present}
+use Rattle.security.specs.Security.{securityLength}
+use Rattle.header.specs.declared.Header.{Header}
+
+-- the record of a frame control, a sequence number, two addresses and a security header
+abbrev pub headerOf : FrameControl → ℕ → OptionalAddress → OptionalAddress → OptionalSecurityHeader → Header
+headerOf control seq destination source security =
+    record {
+      «frame_type» = control .«frame_type»;
+      «frame_pending» = control .«frame_pending»;
+      «ack_request» = control .«ack_request»;
+      «pan_id_compress» = control .«pan_id_compress»;
+      «seq_no_suppress» = control .«seq_no_suppress»;
+      «ie_present» = control .«ie_present»;
+      version = control .version;
+      seq = seq;
+      destination = destination;
+      source = source;
+      «auxiliary_security_header» = security;
+    }
+
+abbrev pub isPresent : OptionalSecurityHeader → Bool
+isPresent Absent = false
+isPresent (Present k) = true
+
+abbrev pub secured : Header → Bool
+secured h = isPresent (h .«auxiliary_security_header»)
+
+-- the source's PAN id is in the frame unless it is compressed
+abbrev pub sourceOwn : Header → Bool
+sourceOwn h = not (h .«pan_id_compress»)
+
+-- the crate's number: 3, plus 4 or 10 for each address, blind to compression and security
+abbrev pub octetSize : Header → ℕ
+octetSize h = 3 + addressLength true (h .destination) + addressLength true (h .source)
+
+-- the bytes really occupied: frame control and sequence number, the addresses, the security header
+abbrev pub addressesEnd : Header → ℕ
+addressesEnd h = 3 + addressLength true (h .destination) + addressLength (sourceOwn h) (h .source)
+
+abbrev pub securityOctets : OptionalSecurityHeader → ℕ
+securityOctets Absent = 0
+securityOctets (Present k) = securityLength k
+
+abbrev pub headerLength : Header → ℕ
+headerLength h = addressesEnd h + securityOctets (h .«auxiliary_security_header»)

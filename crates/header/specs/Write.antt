@@ -1,0 +1,93 @@
+-- Writing a header, document 01: 8; 1 below three bytes of room; 6; 1 addresses; 7; 1 security part. The writer clears frame-control bits 7, 8
+-- and 9, takes the key mode from the key identifier and the counter from the caller.
+use Prim.Native.Nat.{ℕ}
+use mathlib.Core.Bool.{Bool, true, false, cond}
+use mathlib.Core.List.{List, [], _∷_, _++_}
+use lib.Dec.{ltb}
+use Rattle.octets.specs.declared.Outcome.{Outcome}
+use Rattle.octets.specs.Little.{split}
+use Rattle.octets.specs.Order.{first}
+use Rattle.octets.specs.Outcome.{accepted, refused}
+use Rattle.frame_control.specs.declared.FrameControl.{FrameControl}
+use Rattle.frame_control.specs.Control.{controlBits}
+use Rattle.address.specs.declared.OptionalAddress.{OptionalAddress}
+use Rattle.address.specs.declared.OptionalAddress.the-variants as Address
+use Rattle.address.specs.Address.{modeOf}
+use Rattle.address.specs.Layout.{addressBytes}
+use Rattle.security.specs.declared.OptionalCounter.{OptionalCounter}
+use Rattle.security.specs.declared.OptionalSecurityHeader.{OptionalSecurityHeader}
+use Rattle.security.specs.declared.OptionalSecurityHeader.the-variants as Security
+use Rattle.security.specs.Security.{levelOf, securityBytes}
+use Rattle.security.specs.Answer.{missing, counterOf}
+use Rattle.header.specs.Record.{secured, sourceOwn, addressesEnd, headerLength}
+use Rattle.header.specs.declared.Header.{Header}
+use Rattle.header.specs.declared.HeaderWritten.{HeaderWritten}
+use Rattle.header.specs.declared.HeaderWritten.the-variants.{Written, TooLarge, Full, Compression, MissingCounter}
+
+-- refusal 8: a security level above 7, where there is a security header
+abbrev pub levelTooLarge : OptionalSecurityHeader → Bool
+levelTooLarge Security.Absent = false
+levelTooLarge (Security.Present k) = ltb 7 (levelOf k)
+
+-- refusal 6: compression set, either address missing
+abbrev pub bothPresent : OptionalAddress → OptionalAddress → Bool
+bothPresent Address.Absent source = false
+bothPresent (Address.Present d) Address.Absent = false
+bothPresent (Address.Present d) (Address.Present s) = true
+
+abbrev pub lacksAddress : Header → Bool
+lacksAddress h = cond (h .«pan_id_compress») (cond (bothPresent (h .destination) (h .source)) false true) false
+
+-- refusal 7: a secured record and no frame counter supplied
+abbrev pub lacksCounter : Header → OptionalCounter → Bool
+lacksCounter h counter = cond (secured h) (missing counter) false
+
+-- what writing into room bytes answers
+unfoldable pub writeHeader : Header → OptionalCounter → ℕ → HeaderWritten
+writeHeader h counter room =
+    first
+    ((levelTooLarge (h .«auxiliary_security_header»), TooLarge) ∷
+    (ltb room 3, Full) ∷
+    (lacksAddress h, Compression) ∷
+    (ltb room (addressesEnd h), Full) ∷
+    (lacksCounter h counter, MissingCounter) ∷
+    (ltb room (headerLength h), Full) ∷
+    [])
+    (Written (headerLength h))
+
+abbrev pub writtenOutcome : HeaderWritten → Outcome
+writtenOutcome (Written n) = accepted n
+writtenOutcome TooLarge = refused 8
+writtenOutcome Full = refused 1
+writtenOutcome Compression = refused 6
+writtenOutcome MissingCounter = refused 7
+
+-- the frame control of a record as it is written: both flags of bits 8 and 9 false
+abbrev pub writtenControl : Header → FrameControl
+writtenControl h =
+    record {
+      «frame_type» = h .«frame_type»;
+      security = secured h;
+      «frame_pending» = h .«frame_pending»;
+      «ack_request» = h .«ack_request»;
+      «pan_id_compress» = h .«pan_id_compress»;
+      «seq_no_suppress» = false;
+      «ie_present» = false;
+      destination = modeOf (h .destination);
+      version = h .version;
+      source = modeOf (h .source);
+    }
+
+-- the bytes of a record, part by part, written with a counter
+abbrev pub fixedBytes : Header → List ℕ
+fixedBytes h = split 2 (controlBits (writtenControl h)) ++ split 1 (h .seq)
+
+abbrev pub addressesBytes : Header → List ℕ
+addressesBytes h = addressBytes true (h .destination) ++ addressBytes (sourceOwn h) (h .source)
+
+abbrev pub securityPartBytes : OptionalSecurityHeader → ℕ → List ℕ
+securityPartBytes Security.Absent counter = []
+securityPartBytes (Security.Present k) counter = securityBytes k counter
+
+unfoldable pub headerBytes : Header → ℕ → List ℕ
+headerBytes h counter = fixedBytes h ++ (addressesBytes h ++ securityPartBytes (h .«auxiliary_security_header») counter)

@@ -1,0 +1,249 @@
+// The header of a frame: read from any slice, written into any slice, its lengths.
+ghost use mathlib.Core.Path.{_≡_};
+ghost use Prim.Native.Nat.{_+_, _≤_};
+ghost use lib.ListN.{length};
+ghost use Rattle.octets.specs.Buffer.{laid, after};
+ghost use Rattle.address.specs.Layout.{modeLength};
+ghost use Rattle.security.specs.Answer.{counterOf};
+ghost use Rattle.header.specs.Record.{secured, addressesEnd, securityOctets, headerLength, octetSize};
+ghost use Rattle.header.specs.Read.{unshared, destinationEnd, sourceEnd, securityPart, refusalOf, readRest, readFields, readHeader, readNumber, readOutcome};
+ghost use Rattle.header.specs.Write.{levelTooLarge, lacksAddress, lacksCounter, writeHeader, writtenOutcome, writtenControl, fixedBytes, addressesBytes, securityPartBytes, headerBytes};
+use address::OptionalAddress;
+use address::address_at;
+use address::mode_octets;
+use address::put_address;
+use frame_control::AddressMode;
+use frame_control::FrameControl;
+use frame_control::FrameControlRead;
+use frame_control::FrameControlRefusal;
+use frame_control::FrameType;
+use frame_control::FrameVersion;
+use identifiers::PanId;
+use octets::Outcome;
+use octets::put;
+use octets::u8_at;
+use octets::u16_at;
+use security::AuxiliarySecurityHeader;
+use security::OptionalCounter;
+use security::OptionalSecurityHeader;
+use security::SecurityHeaderRead;
+
+pub struct Header {
+    pub frame_type: FrameType,
+    pub frame_pending: bool,
+    pub ack_request: bool,
+    pub pan_id_compress: bool,
+    pub seq_no_suppress: bool,
+    pub ie_present: bool,
+    pub version: FrameVersion,
+    pub seq: u8,
+    pub destination: OptionalAddress,
+    pub source: OptionalAddress,
+    pub auxiliary_security_header: OptionalSecurityHeader,
+}
+
+// The refusals of reading: 1, 2, 3, 4 and 5.
+pub enum HeaderRefusal {
+    Ended,
+    Version,
+    FrameType,
+    AddressMode,
+    Compression,
+}
+
+// What reading answers: the header with its length, or the first refusal in its order.
+pub enum HeaderRead {
+    Read(Header, usize),
+    Refused(HeaderRefusal),
+}
+
+impl HeaderRead {
+    pub fn outcome(self) -> Outcome
+        ensures { λ r. ⌜ r ≡ readOutcome self ⌝ }
+    {
+        match self {
+            HeaderRead::Read(_, n) => Outcome {
+                number: 0,
+                length: n,
+            },
+            HeaderRead::Refused(refusal) => Outcome {
+                number: refusal.number(),
+                length: 0,
+            },
+        }
+    }
+}
+
+impl HeaderRefusal {
+    pub fn number(self) -> u8
+        ensures { λ r. ⌜ r ≡ readNumber self ⌝ }
+    {
+        match self {
+            HeaderRefusal::Ended => 1,
+            HeaderRefusal::Version => 2,
+            HeaderRefusal::FrameType => 3,
+            HeaderRefusal::AddressMode => 4,
+            HeaderRefusal::Compression => 5,
+        }
+    }
+}
+
+// What writing answers: the length, or the first refusal of 8, 1 (below three bytes), 6, 1 (addresses), 7, 1 (security part).
+pub enum HeaderWritten {
+    Written(usize),
+    TooLarge,
+    Full,
+    Compression,
+    MissingCounter,
+}
+
+impl HeaderWritten {
+    pub fn outcome(self) -> Outcome
+        ensures { λ r. ⌜ r ≡ writtenOutcome self ⌝ }
+    {
+        match self {
+            HeaderWritten::Written(n) => Outcome {
+                number: 0,
+                length: n,
+            },
+            HeaderWritten::TooLarge => Outcome {
+                number: 8,
+                length: 0,
+            },
+            HeaderWritten::Full => Outcome {
+                number: 1,
+                length: 0,
+            },
+            HeaderWritten::Compression => Outcome {
+                number: 6,
+                length: 0,
+            },
+            HeaderWritten::MissingCounter => Outcome {
+                number: 7,
+                length: 0,
+            },
+        }
+    }
+}
+
+// A security header, where the security bit announced one, and the place behind it.
+pub enum SecurityPart {
+    Ended,
+    Read(OptionalSecurityHeader, usize),
+}
+
+fn security_part(s: &[u8], at: usize, on: bool) -> SecurityPart
+    requires { ⌜ at ≤ length (now s) ⌝ }
+    ensures { λ r. ⌜ r ≡ securityPart (now (s .entry)) at on ⌝ }
+{
+    if !on {
+        return SecurityPart::Read(OptionalSecurityHeader::Absent, at);
+    }
+    match AuxiliarySecurityHeader::read(s, at) {
+        SecurityHeaderRead::Ended => SecurityPart::Ended,
+        SecurityHeaderRead::Read(security, n) => {
+            SecurityPart::Read(OptionalSecurityHeader::Present(security), at + n)
+        }
+    }
+}
+
+// Compression without a destination whose PAN id could be shared.
+fn unshared(compress: bool, destination: AddressMode) -> bool
+    ensures { λ r. ⌜ r ≡ unshared compress destination ⌝ }
+{
+    if !compress {
+        return false;
+    }
+    match destination {
+        AddressMode::None => true,
+        AddressMode::Short => false,
+        AddressMode::Extended => false,
+    }
+}
+
+fn refusal_of(refusal: FrameControlRefusal) -> HeaderRefusal
+    ensures { λ r. ⌜ r ≡ refusalOf refusal ⌝ }
+{
+    match refusal {
+        FrameControlRefusal::Version => HeaderRefusal::Version,
+        FrameControlRefusal::FrameType => HeaderRefusal::FrameType,
+        FrameControlRefusal::AddressMode => HeaderRefusal::AddressMode,
+    }
+}
+
+// What stands behind the addresses, which are there, and the header made of it all.
+fn read_rest(s: &[u8], c: FrameControl, destination_end: usize, source_end: usize) -> HeaderRead
+    requires { ⌜ («destination_end» ≡ destinationEnd c) × ((«source_end» ≡ sourceEnd c) × (sourceEnd c ≤ length (now s))) ⌝ }
+    ensures { λ r. ⌜ r ≡ readRest (now (s .entry)) c ⌝ }
+{
+    let SecurityPart::Read(auxiliary_security_header, end) = security_part(
+        s,
+        source_end,
+        c.security,
+    ) else {
+        return HeaderRead::Refused(HeaderRefusal::Ended);
+    };
+    let to = c.destination;
+    let from = c.source;
+    let destination = address_at(s, 3, to, true, PanId(0));
+    let source = address_at(
+        s,
+        destination_end,
+        from,
+        !c.pan_id_compress,
+        destination.shared_pan(),
+    );
+    let frame_type = c.frame_type;
+    let version = c.version;
+    HeaderRead::Read(
+        Header {
+            frame_type,
+            frame_pending: c.frame_pending,
+            ack_request: c.ack_request,
+            pan_id_compress: c.pan_id_compress,
+            seq_no_suppress: c.seq_no_suppress,
+            ie_present: c.ie_present,
+            version,
+            seq: u8_at(s, 2),
+            destination,
+            source,
+            auxiliary_security_header,
+        },
+        end,
+    )
+}
+
+// What stands behind a frame control that was read.
+fn read_fields(s: &[u8], c: FrameControl) -> HeaderRead
+    ensures { λ r. ⌜ r ≡ readFields (now (s .entry)) c ⌝ }
+{
+    let to = c.destination;
+    let destination_end = 3 + mode_octets(to, true);
+    if s.len() < destination_end {
+        return HeaderRead::Refused(HeaderRefusal::Ended);
+    }
+    if unshared(c.pan_id_compress, to) {
+        return HeaderRead::Refused(HeaderRefusal::Compression);
+    }
+    let from = c.source;
+    let source_end = destination_end + mode_octets(from, !c.pan_id_compress);
+    if s.len() < source_end {
+        return HeaderRead::Refused(HeaderRefusal::Ended);
+    }
+    read_rest(s, c, destination_end, source_end)
+}
+
+impl Header {
+    // Reads the header at the beginning of a slice.
+    pub fn read(s: &[u8]) -> HeaderRead
+        ensures { λ r. ⌜ r ≡ readHeader (now (s .entry)) ⌝ }
+    {
+        if s.len() < 3 {
+            return HeaderRead::Refused(HeaderRefusal::Ended);
+        }
+        match FrameControl::from_bits(u16_at(s, 0)) {
+            FrameControlRead::Refused(refusal) => HeaderRead::Refused(refusal_of(refusal)),
+            FrameControlRead::Read(control) => read_fields(s, control),
+        }
+    }
+}
