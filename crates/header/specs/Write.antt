@@ -1,7 +1,7 @@
 -- Writing a header, document 01: 8; 1 below three bytes of room; 6; 1 addresses; 7; 1 security part. The writer clears frame-control bits 7, 8
 -- and 9, takes the key mode from the key identifier and the counter from the caller.
 use Prim.Native.Nat.{ℕ}
-use mathlib.Core.Bool.{Bool, true, false, cond}
+use mathlib.Core.Bool.{Bool, true, false, cond, not}
 use mathlib.Core.List.{List, [], _∷_, _++_}
 use lib.Dec.{ltb}
 use Rattle.octets.specs.declared.Outcome.{Outcome}
@@ -36,24 +36,25 @@ bothPresent (Address.Present d) Address.Absent = false
 bothPresent (Address.Present d) (Address.Present s) = true
 
 abbrev pub lacksAddress : Header → Bool
-lacksAddress h = cond (h .«pan_id_compress») (cond (bothPresent (h .destination) (h .source)) false true) false
+lacksAddress h = cond (h .«pan_id_compress») (not (bothPresent (h .destination) (h .source))) false
 
 -- refusal 7: a secured record and no frame counter supplied
 abbrev pub lacksCounter : Header → OptionalCounter → Bool
 lacksCounter h counter = cond (secured h) (missing counter) false
 
--- what writing into room bytes answers
-unfoldable pub writeHeader : Header → OptionalCounter → ℕ → HeaderWritten
-writeHeader h counter room =
-    first
-    ((levelTooLarge (h .«auxiliary_security_header»), TooLarge) ∷
+-- the refusals of writing into room bytes, in their order
+abbrev pub writeTests : Header → OptionalCounter → ℕ → List (Bool × HeaderWritten)
+writeTests h counter room =
+    (levelTooLarge (h .«auxiliary_security_header»), TooLarge) ∷
     (ltb room 3, Full) ∷
     (lacksAddress h, Compression) ∷
     (ltb room (addressesEnd h), Full) ∷
     (lacksCounter h counter, MissingCounter) ∷
     (ltb room (headerLength h), Full) ∷
-    [])
-    (Written (headerLength h))
+    []
+
+unfoldable pub writeHeader : Header → OptionalCounter → ℕ → HeaderWritten
+writeHeader h counter room = first (writeTests h counter room) (Written (headerLength h))
 
 abbrev pub writtenOutcome : HeaderWritten → Outcome
 writtenOutcome (Written n) = accepted n

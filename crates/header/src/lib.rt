@@ -4,10 +4,10 @@ ghost use Prim.Native.Nat.{_+_, _≤_};
 ghost use lib.ListN.{length};
 ghost use Rattle.octets.specs.Buffer.{laid, after};
 ghost use Rattle.address.specs.Layout.{modeLength};
-ghost use Rattle.security.specs.Answer.{counterOf};
+ghost use Rattle.security.specs.Answer.{missing, counterOf};
 ghost use Rattle.header.specs.Record.{secured, addressesEnd, securityOctets, headerLength, octetSize};
 ghost use Rattle.header.specs.Read.{unshared, destinationEnd, sourceEnd, securityPart, refusalOf, readRest, readFields, readHeader, readNumber, readOutcome};
-ghost use Rattle.header.specs.Write.{levelTooLarge, lacksAddress, lacksCounter, writeHeader, writtenOutcome, writtenControl, fixedBytes, addressesBytes, securityPartBytes, headerBytes};
+ghost use Rattle.header.specs.Write.{levelTooLarge, bothPresent, lacksAddress, lacksCounter, writeHeader, writtenOutcome, writtenControl, fixedBytes, addressesBytes, securityPartBytes, headerBytes};
 use address::OptionalAddress;
 use address::address_at;
 use address::mode_octets;
@@ -233,6 +233,70 @@ fn read_fields(s: &[u8], c: FrameControl) -> HeaderRead
     read_rest(s, c, destination_end, source_end)
 }
 
+// How many bytes a security header takes, none where it is absent.
+fn security_octets(security: OptionalSecurityHeader) -> usize
+    ensures { λ r. ⌜ (r ≡ securityOctets security) × (r ≤ 14) ⌝ }
+{
+    match security {
+        OptionalSecurityHeader::Absent => 0,
+        OptionalSecurityHeader::Present(present) => present.get_octet_size(),
+    }
+}
+
+fn level_too_large(security: OptionalSecurityHeader) -> bool
+    ensures { λ r. ⌜ r ≡ levelTooLarge security ⌝ }
+{
+    match security {
+        OptionalSecurityHeader::Absent => false,
+        OptionalSecurityHeader::Present(present) => {
+            let control = present.control;
+            7 < control.security_level
+        }
+    }
+}
+
+fn both_present(destination: OptionalAddress, source: OptionalAddress) -> bool
+    ensures { λ r. ⌜ r ≡ bothPresent destination source ⌝ }
+{
+    match destination {
+        OptionalAddress::Absent => false,
+        OptionalAddress::Present(_) => match source {
+            OptionalAddress::Absent => false,
+            OptionalAddress::Present(_) => true,
+        },
+    }
+}
+
+fn is_missing(counter: OptionalCounter) -> bool
+    ensures { λ r. ⌜ r ≡ missing counter ⌝ }
+{
+    match counter {
+        OptionalCounter::Absent => true,
+        OptionalCounter::Present(_) => false,
+    }
+}
+
+// The counter that is handed over, 0 where none is.
+fn counter_of(counter: OptionalCounter) -> u32
+    ensures { λ r. ⌜ r ≡ counterOf counter ⌝ }
+{
+    match counter {
+        OptionalCounter::Absent => 0,
+        OptionalCounter::Present(number) => number,
+    }
+}
+
+// Stores a security header, or nothing, with a counter at a place and returns the place behind it. Asks for its room.
+fn put_security(out: &mut [u8], at: usize, security: OptionalSecurityHeader, counter: u32) -> usize
+    requires { ⌜ at + securityOctets security ≤ length (now out) ⌝ }
+    ensures { λ r. ⌜ (r ≡ at + securityOctets security) × (now (out .exit) ≡ laid (now (out .entry)) at (securityPartBytes security counter)) ⌝ }
+{
+    match security {
+        OptionalSecurityHeader::Absent => at,
+        OptionalSecurityHeader::Present(present) => present.put(out, at, counter),
+    }
+}
+
 impl Header {
     // Reads the header at the beginning of a slice.
     pub fn read(s: &[u8]) -> HeaderRead
@@ -244,6 +308,162 @@ impl Header {
         match FrameControl::from_bits(u16_at(s, 0)) {
             FrameControlRead::Refused(refusal) => HeaderRead::Refused(refusal_of(refusal)),
             FrameControlRead::Read(control) => read_fields(s, control),
+        }
+    }
+
+    pub fn has_security(self) -> bool
+        ensures { λ r. ⌜ r ≡ secured self ⌝ }
+    {
+        let security = self.auxiliary_security_header;
+        match security {
+            OptionalSecurityHeader::Absent => false,
+            OptionalSecurityHeader::Present(_) => true,
+        }
+    }
+
+    // The crate's number, blind to compression and security: not the payload's start. `occupied` is.
+    pub fn get_octet_size(self) -> usize
+        ensures { λ r. ⌜ r ≡ octetSize self ⌝ }
+    {
+        let destination = self.destination;
+        let source = self.source;
+        3 + destination.octets(true) + source.octets(true)
+    }
+
+    fn addresses_end(self) -> usize
+        ensures { λ r. ⌜ (r ≡ addressesEnd self) × (r ≤ 23) ⌝ }
+    {
+        let destination = self.destination;
+        let source = self.source;
+        3 + destination.octets(true) + source.octets(!self.pan_id_compress)
+    }
+
+    // How many bytes the header really occupies in a frame.
+    pub fn occupied(self) -> usize
+        ensures { λ r. ⌜ (r ≡ headerLength self) × (r ≤ 37) ⌝ }
+    {
+        let security = self.auxiliary_security_header;
+        self.addresses_end() + security_octets(security)
+    }
+
+    fn lacks_address(self) -> bool
+        ensures { λ r. ⌜ r ≡ lacksAddress self ⌝ }
+    {
+        let destination = self.destination;
+        let source = self.source;
+        if self.pan_id_compress {
+            !both_present(destination, source)
+        } else {
+            false
+        }
+    }
+
+    fn lacks_counter(self, counter: OptionalCounter) -> bool
+        ensures { λ r. ⌜ r ≡ lacksCounter self counter ⌝ }
+    {
+        if self.has_security() {
+            is_missing(counter)
+        } else {
+            false
+        }
+    }
+
+    // What writing into room bytes answers.
+    fn write_answer(self, counter: OptionalCounter, room: usize) -> HeaderWritten
+        ensures { λ r. ⌜ r ≡ writeHeader self counter room ⌝ }
+    {
+        let security = self.auxiliary_security_header;
+        if level_too_large(security) {
+            return HeaderWritten::TooLarge;
+        }
+        if room < 3 {
+            return HeaderWritten::Full;
+        }
+        if self.lacks_address() {
+            return HeaderWritten::Compression;
+        }
+        if room < self.addresses_end() {
+            return HeaderWritten::Full;
+        }
+        if self.lacks_counter(counter) {
+            return HeaderWritten::MissingCounter;
+        }
+        let n = self.occupied();
+        if room < n {
+            return HeaderWritten::Full;
+        }
+        HeaderWritten::Written(n)
+    }
+
+    // The frame control as it is written: the flags of bits 8 and 9 are false.
+    fn written_control(self) -> FrameControl
+        ensures { λ r. ⌜ r ≡ writtenControl self ⌝ }
+    {
+        let frame_type = self.frame_type;
+        let version = self.version;
+        let to = self.destination;
+        let from = self.source;
+        let destination = to.mode();
+        let source = from.mode();
+        FrameControl {
+            frame_type,
+            security: self.has_security(),
+            frame_pending: self.frame_pending,
+            ack_request: self.ack_request,
+            pan_id_compress: self.pan_id_compress,
+            seq_no_suppress: false,
+            ie_present: false,
+            destination,
+            version,
+            source,
+        }
+    }
+
+    // Stores frame control and sequence number at the beginning. Asks for their room.
+    fn put_fixed(self, out: &mut [u8])
+        requires { ⌜ 3 ≤ length (now out) ⌝ }
+        ensures { λ r. ⌜ now (out .exit) ≡ laid (now (out .entry)) 0 (fixedBytes self) ⌝ }
+    {
+        let control = self.written_control();
+        put(out, 0, 2, control.to_bits() as u64);
+        put(out, 2, 1, self.seq as u64);
+    }
+
+    // Stores the addresses behind the sequence number and returns the place behind them. Asks for their room.
+    fn put_addresses(self, out: &mut [u8]) -> usize
+        requires { ⌜ addressesEnd self ≤ length (now out) ⌝ }
+        ensures { λ r. ⌜ (r ≡ addressesEnd self) × (now (out .exit) ≡ laid (now (out .entry)) 3 (addressesBytes self)) ⌝ }
+    {
+        let destination = self.destination;
+        let source = self.source;
+        let next = put_address(out, 3, destination, true);
+        put_address(out, next, source, !self.pan_id_compress)
+    }
+
+    // Stores the whole header at the beginning. Asks for its room.
+    fn put(self, out: &mut [u8], counter: u32)
+        requires { ⌜ headerLength self ≤ length (now out) ⌝ }
+        ensures { λ r. ⌜ now (out .exit) ≡ laid (now (out .entry)) 0 (headerBytes self counter) ⌝ }
+    {
+        self.put_fixed(out);
+        let at = self.put_addresses(out);
+        let security = self.auxiliary_security_header;
+        put_security(out, at, security, counter);
+    }
+
+    // Writes the header at the beginning of a slice, with the frame counter that the caller hands over where it is secured.
+    pub fn write(self, out: &mut [u8], counter: OptionalCounter) -> HeaderWritten
+        ensures { λ r. ⌜ (r ≡ writeHeader self counter (length (now (out .entry)))) × (now (out .exit) ≡ after (writtenOutcome r) (now (out .entry)) 0 (headerBytes self (counterOf counter))) ⌝ }
+    {
+        match self.write_answer(counter, out.len()) {
+            HeaderWritten::Written(n) => {
+                self.put(out, counter_of(counter));
+                HeaderWritten::Written(n)
+            }
+            HeaderWritten::TooLarge => HeaderWritten::TooLarge,
+            HeaderWritten::Full => HeaderWritten::Full,
+            HeaderWritten::Compression => HeaderWritten::Compression,
+            HeaderWritten::MissingCounter => HeaderWritten::MissingCounter,
         }
     }
 }

@@ -1,10 +1,9 @@
 -- Laws of the first test that holds.
 -- Assumes nothing.
-use Prim.Native.Nat.{ℕ}
-use mathlib.Core.Bool.{Bool, true, false, cond}
+use mathlib.Core.Bool.{Bool, true, false, true≢false}
 use mathlib.Core.List.{List, [], _∷_, map}
 use mathlib.Core.Logic.{_⊎_, inl, inr, ⊎-elim}
-use mathlib.Core.Path.{_≡_, refl}
+use mathlib.Core.Path.{_≡_, refl, sym, _∙_}
 use Rattle.octets.specs.Order.{first}
 
 -- what is said of the answer is said beside each test
@@ -22,3 +21,20 @@ cases sum left right = ⊎-elim left right sum
 pub holds? : (b : Bool) → (b ≡ true) ⊎ (b ≡ false)
 holds? true = inl refl
 holds? false = inr refl
+
+-- Where each answer beside a test is a refusal, an accepting answer says that no test holds and that it is the last one.
+abbrev pub Refusing : {A : Type 0} → (A → Bool) → List (Bool × A) → Type 0
+Refusing accepts [] = Unit
+Refusing accepts (test ∷ rest) = (accepts (test .1) ≡ false) × Refusing accepts rest
+
+abbrev pub Fail : {A : Type 0} → List (Bool × A) → Type 0
+Fail [] = Unit
+Fail (test ∷ rest) = (test .0 ≡ false) × Fail rest
+
+pub none-holds : {A : Type 0} (accepts : A → Bool) (tests : List (Bool × A)) (other : A) → Refusing accepts tests → accepts (first tests other) ≡ true →
+    Fail tests × (first tests other ≡ other)
+none-holds accepts [] other r e = (tt, refl)
+none-holds accepts ((true, a) ∷ rest) other r e = absurd (true≢false (sym e ∙ r .0))
+none-holds accepts ((false, a) ∷ rest) other r e =
+    let q = none-holds accepts rest other (r .1) e in
+    ((refl, q .0), q .1)

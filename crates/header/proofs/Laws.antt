@@ -1,0 +1,49 @@
+-- Laws of the header's lengths, and of an accepting writer.
+-- Assumes nothing.
+use Prim.Native.Nat.{ℕ, _+_, _≤_}
+use native.Mathlib.Omega.{arith}
+use mathlib.Core.Bool.{Bool, true, false}
+use mathlib.Core.Path.{_≡_, refl, sym, ap, _∙_}
+use borrow.Author.Tests.{ltb-false}
+use lib.Dec.{eqb}
+use lib.ListN.{length, length-append}
+use Rattle.octets.proofs.Little.{split-length}
+use Rattle.octets.proofs.Order.{none-holds}
+use Rattle.address.specs.Layout.{addressLength}
+use Rattle.address.proofs.Laws.{address-length}
+use Rattle.security.specs.declared.OptionalCounter.{OptionalCounter}
+use Rattle.security.specs.declared.OptionalSecurityHeader.{OptionalSecurityHeader}
+use Rattle.security.specs.declared.OptionalSecurityHeader.the-variants.{Absent, Present}
+use Rattle.security.proofs.Laws.{security-length}
+use Rattle.header.specs.declared.Header.{Header}
+use Rattle.header.specs.declared.HeaderWritten.{HeaderWritten}
+use Rattle.header.specs.declared.HeaderWritten.the-variants.{Written}
+use Rattle.header.specs.Record.{sourceOwn, addressesEnd, securityOctets, headerLength}
+use Rattle.header.specs.Write.{writeTests, writeHeader, writtenOutcome, fixedBytes, addressesBytes, securityPartBytes, headerBytes}
+
+pub fixed-length : (h : Header) → length (fixedBytes h) ≡ 3
+fixed-length h = simp (length-append, split-length)
+
+pub addresses-length : (h : Header) → length (addressesBytes h) ≡ addressLength true (h .destination) + addressLength (sourceOwn h) (h .source)
+addresses-length h = simp (length-append, address-length)
+
+part-length : (k : OptionalSecurityHeader) (counter : ℕ) → length (securityPartBytes k counter) ≡ securityOctets k
+part-length Absent counter = refl
+part-length (Present k) counter = security-length k counter
+
+pub header-length : (h : Header) (counter : ℕ) → length (headerBytes h counter) ≡ headerLength h
+unfolding headerBytes
+header-length h counter = simp (length-append, split-length, address-length, part-length) (omega arith)
+
+abbrev accepting : HeaderWritten → Bool
+accepting r = eqb (writtenOutcome r .number) 0
+
+same : (m n : ℕ) → Written m ≡ Written n → m ≡ n
+same m n e = cc
+
+-- an accepted header has room, and its length is the record's
+pub written-fits : (h : Header) (counter : OptionalCounter) (room n : ℕ) → writeHeader h counter room ≡ Written n → (headerLength h ≤ room) × (headerLength h ≡ n)
+unfolding writeHeader
+written-fits h counter room n e =
+    let q = none-holds accepting (writeTests h counter room) (Written (headerLength h)) (refl, (refl, (refl, (refl, (refl, (refl, tt)))))) (ap accepting e) in
+    (ltb-false room (headerLength h) (q .0 .1 .1 .1 .1 .1 .0), same (headerLength h) n (sym (q .1) ∙ e))
