@@ -12,14 +12,12 @@ use Rattle.octets.proofs.Order.{none-holds}
 use Rattle.address.specs.Layout.{addressLength}
 use Rattle.address.proofs.Laws.{address-length}
 use Rattle.security.specs.declared.OptionalCounter.{OptionalCounter}
-use Rattle.security.specs.declared.OptionalSecurityHeader.{OptionalSecurityHeader}
-use Rattle.security.specs.declared.OptionalSecurityHeader.the-variants.{Absent, Present}
-use Rattle.security.proofs.Laws.{security-length}
+use Rattle.security.proofs.Laws.{optional-length}
 use Rattle.header.specs.declared.Header.{Header}
 use Rattle.header.specs.declared.HeaderWritten.{HeaderWritten}
 use Rattle.header.specs.declared.HeaderWritten.the-variants.{Written}
-use Rattle.header.specs.Record.{sourceOwn, addressesEnd, securityOctets, headerLength}
-use Rattle.header.specs.Write.{writeTests, writeHeader, writtenOutcome, fixedBytes, addressesBytes, securityPartBytes, headerBytes}
+use Rattle.header.specs.Record.{sourceOwn, headerLength}
+use Rattle.header.specs.Write.{writeTests, writeHeader, writtenOutcome, fixedBytes, addressesBytes, headerBytes}
 
 pub fixed-length : (h : Header) → length (fixedBytes h) ≡ 3
 fixed-length h = simp (length-append, split-length)
@@ -27,13 +25,9 @@ fixed-length h = simp (length-append, split-length)
 pub addresses-length : (h : Header) → length (addressesBytes h) ≡ addressLength true (h .destination) + addressLength (sourceOwn h) (h .source)
 addresses-length h = simp (length-append, address-length)
 
-part-length : (k : OptionalSecurityHeader) (counter : ℕ) → length (securityPartBytes k counter) ≡ securityOctets k
-part-length Absent counter = refl
-part-length (Present k) counter = security-length k counter
-
 pub header-length : (h : Header) (counter : ℕ) → length (headerBytes h counter) ≡ headerLength h
 unfolding headerBytes
-header-length h counter = simp (length-append, split-length, address-length, part-length) (omega arith)
+header-length h counter = simp (length-append, split-length, address-length, optional-length) (omega arith)
 
 abbrev accepting : HeaderWritten → Bool
 accepting r = eqb (writtenOutcome r .number) 0

@@ -1,12 +1,11 @@
 -- The header record: how it is made, whether it is secured, and its two lengths (document 01, "Header layout").
 use Prim.Native.Nat.{ℕ, _+_}
-use mathlib.Core.Bool.{Bool, true, false, not}
+use mathlib.Core.Bool.{Bool, true, not}
 use Rattle.frame_control.specs.declared.FrameControl.{FrameControl}
 use Rattle.address.specs.declared.OptionalAddress.{OptionalAddress}
 use Rattle.address.specs.Layout.{addressLength}
 use Rattle.security.specs.declared.OptionalSecurityHeader.{OptionalSecurityHeader}
-use Rattle.security.specs.declared.OptionalSecurityHeader.the-variants.{Absent, Present}
-use Rattle.security.specs.Security.{securityLength}
+use Rattle.security.specs.Optional.{isPresent, optionalLength}
 use Rattle.header.specs.declared.Header.{Header}
 
 -- the record of a frame control, a sequence number, two addresses and a security header
@@ -26,10 +25,6 @@ headerOf control seq destination source security =
       «auxiliary_security_header» = security;
     }
 
-abbrev pub isPresent : OptionalSecurityHeader → Bool
-isPresent Absent = false
-isPresent (Present k) = true
-
 abbrev pub secured : Header → Bool
 secured h = isPresent (h .«auxiliary_security_header»)
 
@@ -45,9 +40,5 @@ octetSize h = 3 + addressLength true (h .destination) + addressLength true (h .s
 abbrev pub addressesEnd : Header → ℕ
 addressesEnd h = 3 + addressLength true (h .destination) + addressLength (sourceOwn h) (h .source)
 
-abbrev pub securityOctets : OptionalSecurityHeader → ℕ
-securityOctets Absent = 0
-securityOctets (Present k) = securityLength k
-
 abbrev pub headerLength : Header → ℕ
-headerLength h = addressesEnd h + securityOctets (h .«auxiliary_security_header»)
+headerLength h = addressesEnd h + optionalLength (h .«auxiliary_security_header»)

@@ -15,19 +15,11 @@ use Rattle.address.specs.declared.OptionalAddress.the-variants as Address
 use Rattle.address.specs.Address.{modeOf}
 use Rattle.address.specs.Layout.{addressBytes}
 use Rattle.security.specs.declared.OptionalCounter.{OptionalCounter}
-use Rattle.security.specs.declared.OptionalSecurityHeader.{OptionalSecurityHeader}
-use Rattle.security.specs.declared.OptionalSecurityHeader.the-variants as Security
-use Rattle.security.specs.Security.{levelOf, securityBytes}
-use Rattle.security.specs.Answer.{missing, counterOf}
+use Rattle.security.specs.Optional.{levelTooLarge, optionalBytes, missing}
 use Rattle.header.specs.Record.{secured, sourceOwn, addressesEnd, headerLength}
 use Rattle.header.specs.declared.Header.{Header}
 use Rattle.header.specs.declared.HeaderWritten.{HeaderWritten}
 use Rattle.header.specs.declared.HeaderWritten.the-variants.{Written, TooLarge, Full, Compression, MissingCounter}
-
--- refusal 8: a security level above 7, where there is a security header
-abbrev pub levelTooLarge : OptionalSecurityHeader → Bool
-levelTooLarge Security.Absent = false
-levelTooLarge (Security.Present k) = ltb 7 (levelOf k)
 
 -- refusal 6: compression set, either address missing
 abbrev pub bothPresent : OptionalAddress → OptionalAddress → Bool
@@ -86,9 +78,5 @@ fixedBytes h = split 2 (controlBits (writtenControl h)) ++ split 1 (h .seq)
 abbrev pub addressesBytes : Header → List ℕ
 addressesBytes h = addressBytes true (h .destination) ++ addressBytes (sourceOwn h) (h .source)
 
-abbrev pub securityPartBytes : OptionalSecurityHeader → ℕ → List ℕ
-securityPartBytes Security.Absent counter = []
-securityPartBytes (Security.Present k) counter = securityBytes k counter
-
 unfoldable pub headerBytes : Header → ℕ → List ℕ
-headerBytes h counter = fixedBytes h ++ (addressesBytes h ++ securityPartBytes (h .«auxiliary_security_header») counter)
+headerBytes h counter = fixedBytes h ++ (addressesBytes h ++ optionalBytes (h .«auxiliary_security_header») counter)

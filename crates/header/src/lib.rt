@@ -4,10 +4,10 @@ ghost use Prim.Native.Nat.{_+_, _≤_};
 ghost use lib.ListN.{length};
 ghost use Rattle.octets.specs.Buffer.{laid, after};
 ghost use Rattle.address.specs.Layout.{modeLength};
-ghost use Rattle.security.specs.Answer.{missing, counterOf};
-ghost use Rattle.header.specs.Record.{secured, addressesEnd, securityOctets, headerLength, octetSize};
+ghost use Rattle.security.specs.Optional.{counterOf};
+ghost use Rattle.header.specs.Record.{secured, addressesEnd, headerLength, octetSize};
 ghost use Rattle.header.specs.Read.{unshared, destinationEnd, sourceEnd, securityPart, refusalOf, readRest, readFields, readHeader, readNumber, readOutcome};
-ghost use Rattle.header.specs.Write.{levelTooLarge, bothPresent, lacksAddress, lacksCounter, writeHeader, writtenOutcome, writtenControl, fixedBytes, addressesBytes, securityPartBytes, headerBytes};
+ghost use Rattle.header.specs.Write.{bothPresent, lacksAddress, lacksCounter, writeHeader, writtenOutcome, writtenControl, fixedBytes, addressesBytes, headerBytes};
 use address::OptionalAddress;
 use address::address_at;
 use address::mode_octets;
@@ -233,28 +233,6 @@ fn read_fields(s: &[u8], c: FrameControl) -> HeaderRead
     read_rest(s, c, destination_end, source_end)
 }
 
-// How many bytes a security header takes, none where it is absent.
-fn security_octets(security: OptionalSecurityHeader) -> usize
-    ensures { λ r. ⌜ (r ≡ securityOctets security) × (r ≤ 14) ⌝ }
-{
-    match security {
-        OptionalSecurityHeader::Absent => 0,
-        OptionalSecurityHeader::Present(present) => present.get_octet_size(),
-    }
-}
-
-fn level_too_large(security: OptionalSecurityHeader) -> bool
-    ensures { λ r. ⌜ r ≡ levelTooLarge security ⌝ }
-{
-    match security {
-        OptionalSecurityHeader::Absent => false,
-        OptionalSecurityHeader::Present(present) => {
-            let control = present.control;
-            7 < control.security_level
-        }
-    }
-}
-
 fn both_present(destination: OptionalAddress, source: OptionalAddress) -> bool
     ensures { λ r. ⌜ r ≡ bothPresent destination source ⌝ }
 {
@@ -264,36 +242,6 @@ fn both_present(destination: OptionalAddress, source: OptionalAddress) -> bool
             OptionalAddress::Absent => false,
             OptionalAddress::Present(_) => true,
         },
-    }
-}
-
-fn is_missing(counter: OptionalCounter) -> bool
-    ensures { λ r. ⌜ r ≡ missing counter ⌝ }
-{
-    match counter {
-        OptionalCounter::Absent => true,
-        OptionalCounter::Present(_) => false,
-    }
-}
-
-// The counter that is handed over, 0 where none is.
-fn counter_of(counter: OptionalCounter) -> u32
-    ensures { λ r. ⌜ r ≡ counterOf counter ⌝ }
-{
-    match counter {
-        OptionalCounter::Absent => 0,
-        OptionalCounter::Present(number) => number,
-    }
-}
-
-// Stores a security header, or nothing, with a counter at a place and returns the place behind it. Asks for its room.
-fn put_security(out: &mut [u8], at: usize, security: OptionalSecurityHeader, counter: u32) -> usize
-    requires { ⌜ at + securityOctets security ≤ length (now out) ⌝ }
-    ensures { λ r. ⌜ (r ≡ at + securityOctets security) × (now (out .exit) ≡ laid (now (out .entry)) at (securityPartBytes security counter)) ⌝ }
-{
-    match security {
-        OptionalSecurityHeader::Absent => at,
-        OptionalSecurityHeader::Present(present) => present.put(out, at, counter),
     }
 }
 
@@ -315,10 +263,7 @@ impl Header {
         ensures { λ r. ⌜ r ≡ secured self ⌝ }
     {
         let security = self.auxiliary_security_header;
-        match security {
-            OptionalSecurityHeader::Absent => false,
-            OptionalSecurityHeader::Present(_) => true,
-        }
+        security.is_present()
     }
 
     // The crate's number, blind to compression and security: not the payload's start. `occupied` is.
@@ -343,7 +288,7 @@ impl Header {
         ensures { λ r. ⌜ (r ≡ headerLength self) × (r ≤ 37) ⌝ }
     {
         let security = self.auxiliary_security_header;
-        self.addresses_end() + security_octets(security)
+        self.addresses_end() + security.octets()
     }
 
     fn lacks_address(self) -> bool
@@ -362,7 +307,7 @@ impl Header {
         ensures { λ r. ⌜ r ≡ lacksCounter self counter ⌝ }
     {
         if self.has_security() {
-            is_missing(counter)
+            counter.is_missing()
         } else {
             false
         }
@@ -373,7 +318,7 @@ impl Header {
         ensures { λ r. ⌜ r ≡ writeHeader self counter room ⌝ }
     {
         let security = self.auxiliary_security_header;
-        if level_too_large(security) {
+        if security.too_large() {
             return HeaderWritten::TooLarge;
         }
         if room < 3 {
@@ -448,7 +393,7 @@ impl Header {
         self.put_fixed(out);
         let at = self.put_addresses(out);
         let security = self.auxiliary_security_header;
-        put_security(out, at, security, counter);
+        security.put(out, at, counter);
     }
 
     // Writes the header at the beginning of a slice, with the frame counter that the caller hands over where it is secured.
@@ -457,7 +402,7 @@ impl Header {
     {
         match self.write_answer(counter, out.len()) {
             HeaderWritten::Written(n) => {
-                self.put(out, counter_of(counter));
+                self.put(out, counter.number());
                 HeaderWritten::Written(n)
             }
             HeaderWritten::TooLarge => HeaderWritten::TooLarge,

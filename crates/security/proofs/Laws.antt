@@ -19,18 +19,25 @@ use Rattle.security_control.specs.declared.KeyIdentifierMode.{KeyIdentifierMode
 use Rattle.security_control.specs.declared.SecurityControl.{SecurityControl}
 use Rattle.security_control.specs.Control.{controlOf, controlIn, controlBits}
 use Rattle.security_control.proofs.Control.{control-small, control-back, control-again}
-use Rattle.security.specs.declared.OptionalKeyIdentifier.{OptionalKeyIdentifier}
+use Rattle.key_identifier.specs.declared.OptionalKeyIdentifier.{OptionalKeyIdentifier}
 use Rattle.security.specs.declared.AuxiliarySecurityHeader.{AuxiliarySecurityHeader}
+use Rattle.security.specs.declared.OptionalSecurityHeader.{OptionalSecurityHeader}
+use Rattle.security.specs.declared.OptionalSecurityHeader.the-variants.{Absent, Present}
 use Rattle.security.specs.declared.SecurityHeaderRead.the-variants.{Read}
-use Rattle.security.specs.Key.{modeOfKey, keyLength, keyIn, keyBytes}
+use Rattle.security.specs.Optional.{optionalLength, optionalBytes}
+use Rattle.key_identifier.specs.Key.{modeOfKey, keyLength, keyIn, keyBytes}
 use Rattle.security.specs.Security.{securityOf, controlAt, lengthIn, securityIn, levelOf, securityLength, writtenControl, securityBytes, SmallSecurity}
 use Rattle.security.specs.Answer.{readSecurity}
 use Rattle.security.specs.RoundTrip.{told, cleared, rewritten}
-use Rattle.security.proofs.Keys.{key-length, key-bytes, key-back, key-again, key-more, key-small, key-mode}
+use Rattle.key_identifier.proofs.Keys.{key-length, key-bytes, key-back, key-again, key-more, key-small, key-mode}
 
 pub security-length : (h : AuxiliarySecurityHeader) (counter : ℕ) → length (securityBytes h counter) ≡ securityLength h
 unfolding securityBytes
 security-length h counter = simp (length-append, split-length, key-length) (omega arith)
+
+pub optional-length : (k : OptionalSecurityHeader) (counter : ℕ) → length (optionalBytes k counter) ≡ optionalLength k
+optional-length Absent counter = refl
+optional-length (Present k) counter = security-length k counter
 
 pub security-bytes : (h : AuxiliarySecurityHeader) (counter : ℕ) → Bytes (securityBytes h counter)
 unfolding securityBytes

@@ -18,7 +18,7 @@ use Rattle.security.specs.declared.AuxiliarySecurityHeader.{AuxiliarySec
 use Rattle.security.specs.declared.OptionalCounter.the-variants.{Present}
 use Rattle.security.specs.declared.SecurityHeaderRead.the-variants.{Read, Ended}
 use Rattle.security.specs.declared.SecurityHeaderWritten.the-variants.{Written}
-use Rattle.security.specs.Key.{modeOfKey, keyLength}
+use Rattle.key_identifier.specs.Key.{modeOfKey, keyLength}
 use Rattle.security.specs.Security.{lengthIn, securityIn, levelOf, securityLength}
 use Rattle.security.specs.Answer.{readSecurity, writeSecurity}
 use Rattle.security.specs.RoundTrip.{cleared, rewritten, RoundTrip}

@@ -1,16 +1,15 @@
 -- What reading and writing a security header answers: reading only 1; writing 8, then 7, then 1 (document 01, "Refusal numbers").
 use Prim.Native.Nat.{ℕ}
-use mathlib.Core.Bool.{Bool, true, false}
 use mathlib.Core.List.{List, [], _∷_}
 use lib.Dec.{ltb}
 use Rattle.octets.specs.declared.Outcome.{Outcome}
 use Rattle.octets.specs.Order.{first}
 use Rattle.octets.specs.Outcome.{accepted, refused}
 use Rattle.octets.specs.Part.{ends}
+use Rattle.security.specs.Optional.{missing}
 use Rattle.security.specs.Security.{lengthIn, securityIn, levelOf, securityLength}
 use Rattle.security.specs.declared.AuxiliarySecurityHeader.{AuxiliarySecurityHeader}
 use Rattle.security.specs.declared.OptionalCounter.{OptionalCounter}
-use Rattle.security.specs.declared.OptionalCounter.the-variants.{Absent, Present}
 use Rattle.security.specs.declared.SecurityHeaderRead.{SecurityHeaderRead}
 use Rattle.security.specs.declared.SecurityHeaderRead.the-variants.{Read, Ended}
 use Rattle.security.specs.declared.SecurityHeaderWritten.{SecurityHeaderWritten}
@@ -22,15 +21,6 @@ readSecurity s at = first ((ends s at (lengthIn s at), Ended) ∷ []) (Read (sec
 abbrev pub readOutcome : SecurityHeaderRead → Outcome
 readOutcome (Read h n) = accepted n
 readOutcome Ended = refused 1
-
-abbrev pub missing : OptionalCounter → Bool
-missing Absent = true
-missing (Present n) = false
-
--- the counter that is written; with none, nothing is
-abbrev pub counterOf : OptionalCounter → ℕ
-counterOf Absent = 0
-counterOf (Present n) = n
 
 unfoldable pub writeSecurity : AuxiliarySecurityHeader → OptionalCounter → List ℕ → ℕ → SecurityHeaderWritten
 writeSecurity h counter out at =

@@ -1,4 +1,4 @@
-pub mod Key
 pub mod Security
+pub mod Optional
 pub mod Answer
 pub mod RoundTrip

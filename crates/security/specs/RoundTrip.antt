@@ -5,7 +5,7 @@ use mathlib.Core.Path.{_≡_}
 use lib.ListN.{length, take, drop}
 use Rattle.octets.specs.Bits.{clearAt}
 use Rattle.security_control.specs.Control.{controlOf}
-use Rattle.security.specs.Key.{modeOfKey}
+use Rattle.key_identifier.specs.Key.{modeOfKey}
 use Rattle.security.specs.Security.{securityOf, lengthIn, levelOf, securityBytes}
 use Rattle.security.specs.Answer.{readSecurity, writeSecurity}
 use Rattle.security.specs.declared.AuxiliarySecurityHeader.{AuxiliarySecurityHeader}

@@ -5,8 +5,8 @@ use Rattle.octets.specs.Bits.{bits}
 use Rattle.octets.specs.Little.{number, split}
 use Rattle.security_control.specs.declared.SecurityControl.{SecurityControl}
 use Rattle.security_control.specs.Control.{keyModeOf, controlOf, controlIn, controlBits}
-use Rattle.security.specs.Key.{modeOfKey, keyLength, keyIn, keyBytes, SmallKey}
-use Rattle.security.specs.declared.OptionalKeyIdentifier.{OptionalKeyIdentifier}
+use Rattle.key_identifier.specs.Key.{modeOfKey, keyLength, keyIn, keyBytes, SmallKey}
+use Rattle.key_identifier.specs.declared.OptionalKeyIdentifier.{OptionalKeyIdentifier}
 use Rattle.security.specs.declared.AuxiliarySecurityHeader.{AuxiliarySecurityHeader}
 
 abbrev pub securityOf : SecurityControl → ℕ → OptionalKeyIdentifier → AuxiliarySecurityHeader

@@ -1,122 +1,22 @@
 // The auxiliary security header: security control, frame counter, key identifier; read and written as a part of a slice at a place.
-// Functions with a `requires` are building blocks of this project's readers and writers, which measure first.
+// Functions with a `requires` are building blocks of this project's writers, which measure first.
 ghost use mathlib.Core.Path.{_≡_};
 ghost use Prim.Native.Nat.{_+_, _≤_};
 ghost use lib.ListN.{length};
 ghost use Rattle.octets.specs.Buffer.{laid, after};
-ghost use Rattle.security.specs.Key.{modeOfKey, keyLength, keyIn, sourceLength, sourceBytes, keyBytes};
 ghost use Rattle.security.specs.Security.{securityOf, securityLength, writtenControl, securityBytes};
-ghost use Rattle.security.specs.Answer.{counterOf, readSecurity, readOutcome, writeSecurity, writtenOutcome};
+ghost use Rattle.security.specs.Optional.{isPresent, levelTooLarge, optionalLength, optionalBytes, missing, counterOf};
+ghost use Rattle.security.specs.Answer.{readSecurity, readOutcome, writeSecurity, writtenOutcome};
+use key_identifier::OptionalKeyIdentifier;
+use key_identifier::key_at;
+use key_identifier::key_octets;
+use key_identifier::put_key;
 use octets::Outcome;
 use octets::left;
 use octets::put;
 use octets::u8_at;
 use octets::u32_at;
-use octets::u64_at;
-use security_control::KeyIdentifierMode;
 use security_control::SecurityControl;
-
-pub enum KeySource {
-    Short(u32),
-    Long(u64),
-}
-
-pub enum OptionalKeySource {
-    Absent,
-    Present(KeySource),
-}
-
-pub struct KeyIdentifier {
-    pub key_source: OptionalKeySource,
-    pub key_index: u8,
-}
-
-pub enum OptionalKeyIdentifier {
-    Absent,
-    Present(KeyIdentifier),
-}
-
-impl OptionalKeyIdentifier {
-    // The key identifier mode that announces it.
-    pub fn mode(self) -> KeyIdentifierMode
-        ensures { λ r. ⌜ r ≡ modeOfKey self ⌝ }
-    {
-        match self {
-            OptionalKeyIdentifier::Absent => KeyIdentifierMode::None,
-            OptionalKeyIdentifier::Present(key) => {
-                let source = key.key_source;
-                match source {
-                    OptionalKeySource::Absent => KeyIdentifierMode::KeyIndex,
-                    OptionalKeySource::Present(bytes) => match bytes {
-                        KeySource::Short(_) => KeyIdentifierMode::KeySource4,
-                        KeySource::Long(_) => KeyIdentifierMode::KeySource8,
-                    },
-                }
-            }
-        }
-    }
-}
-
-// How many bytes a key identifier of a mode takes.
-pub fn key_octets(mode: KeyIdentifierMode) -> usize
-    ensures { λ r. ⌜ (r ≡ keyLength mode) × (r ≤ 9) ⌝ }
-{
-    match mode {
-        KeyIdentifierMode::None => 0,
-        KeyIdentifierMode::KeyIndex => 1,
-        KeyIdentifierMode::KeySource4 => 5,
-        KeyIdentifierMode::KeySource8 => 9,
-    }
-}
-
-// The key identifier of a mode at a place. Asks that its bytes are there.
-fn key_at(s: &[u8], at: usize, mode: KeyIdentifierMode) -> OptionalKeyIdentifier
-    requires { ⌜ at + keyLength mode ≤ length (now s) ⌝ }
-    ensures { λ r. ⌜ r ≡ keyIn mode (now (s .entry)) at ⌝ }
-{
-    match mode {
-        KeyIdentifierMode::None => OptionalKeyIdentifier::Absent,
-        KeyIdentifierMode::KeyIndex => OptionalKeyIdentifier::Present(KeyIdentifier {
-            key_source: OptionalKeySource::Absent,
-            key_index: u8_at(s, at),
-        }),
-        KeyIdentifierMode::KeySource4 => OptionalKeyIdentifier::Present(KeyIdentifier {
-            key_source: OptionalKeySource::Present(KeySource::Short(u32_at(s, at))),
-            key_index: u8_at(s, at + 4),
-        }),
-        KeyIdentifierMode::KeySource8 => OptionalKeyIdentifier::Present(KeyIdentifier {
-            key_source: OptionalKeySource::Present(KeySource::Long(u64_at(s, at))),
-            key_index: u8_at(s, at + 8),
-        }),
-    }
-}
-
-// Stores a key source, or nothing, at a place and returns the place behind it. Asks for its room.
-fn put_source(out: &mut [u8], at: usize, source: OptionalKeySource) -> usize
-    requires { ⌜ at + sourceLength source ≤ length (now out) ⌝ }
-    ensures { λ r. ⌜ (r ≡ at + sourceLength source) × (now (out .exit) ≡ laid (now (out .entry)) at (sourceBytes source)) ⌝ }
-{
-    let OptionalKeySource::Present(present) = source else {
-        return at;
-    };
-    match present {
-        KeySource::Short(number) => put(out, at, 4, number as u64),
-        KeySource::Long(number) => put(out, at, 8, number),
-    }
-}
-
-// Stores a key identifier, or nothing, at a place and returns the place behind it. Asks for its room.
-fn put_key(out: &mut [u8], at: usize, key: OptionalKeyIdentifier) -> usize
-    requires { ⌜ at + keyLength (modeOfKey key) ≤ length (now out) ⌝ }
-    ensures { λ r. ⌜ (r ≡ at + keyLength (modeOfKey key)) × (now (out .exit) ≡ laid (now (out .entry)) at (keyBytes key)) ⌝ }
-{
-    let OptionalKeyIdentifier::Present(present) = key else {
-        return at;
-    };
-    let source = present.key_source;
-    let next = put_source(out, at, source);
-    put(out, next, 1, present.key_index as u64)
-}
 
 pub struct AuxiliarySecurityHeader {
     pub control: SecurityControl,
@@ -129,10 +29,75 @@ pub enum OptionalSecurityHeader {
     Present(AuxiliarySecurityHeader),
 }
 
+impl OptionalSecurityHeader {
+    pub fn is_present(self) -> bool
+        ensures { λ r. ⌜ r ≡ isPresent self ⌝ }
+    {
+        match self {
+            OptionalSecurityHeader::Absent => false,
+            OptionalSecurityHeader::Present(_) => true,
+        }
+    }
+
+    // A security level above 7.
+    pub fn too_large(self) -> bool
+        ensures { λ r. ⌜ r ≡ levelTooLarge self ⌝ }
+    {
+        match self {
+            OptionalSecurityHeader::Absent => false,
+            OptionalSecurityHeader::Present(security) => {
+                let control = security.control;
+                7 < control.security_level
+            }
+        }
+    }
+
+    pub fn octets(self) -> usize
+        ensures { λ r. ⌜ (r ≡ optionalLength self) × (r ≤ 14) ⌝ }
+    {
+        match self {
+            OptionalSecurityHeader::Absent => 0,
+            OptionalSecurityHeader::Present(security) => security.get_octet_size(),
+        }
+    }
+
+    // Stores it, or nothing, with a counter at a place and returns the place behind it. Asks for its room.
+    pub fn put(self, out: &mut [u8], at: usize, counter: u32) -> usize
+        requires { ⌜ at + optionalLength self ≤ length (now out) ⌝ }
+        ensures { λ r. ⌜ (r ≡ at + optionalLength self) × (now (out .exit) ≡ laid (now (out .entry)) at (optionalBytes self counter)) ⌝ }
+    {
+        match self {
+            OptionalSecurityHeader::Absent => at,
+            OptionalSecurityHeader::Present(security) => security.put(out, at, counter),
+        }
+    }
+}
+
 // The frame counter that a writer is handed, or none.
 pub enum OptionalCounter {
     Absent,
     Present(u32),
+}
+
+impl OptionalCounter {
+    pub fn is_missing(self) -> bool
+        ensures { λ r. ⌜ r ≡ missing self ⌝ }
+    {
+        match self {
+            OptionalCounter::Absent => true,
+            OptionalCounter::Present(_) => false,
+        }
+    }
+
+    // The counter that is handed over, 0 where none is.
+    pub fn number(self) -> u32
+        ensures { λ r. ⌜ r ≡ counterOf self ⌝ }
+    {
+        match self {
+            OptionalCounter::Absent => 0,
+            OptionalCounter::Present(number) => number,
+        }
+    }
 }
 
 // What reading answers: the security header with its length, or refusal 1.

@@ -12,7 +12,7 @@ use Rattle.header.proofs.Header.put.Tie as tie
 returns : tie.Need-returns
 unfolding headerBytes
 returns c =
-    let security = c .before .before .put-security in
+    let security = c .before .before .put in
     let addresses = c .before .before .before .before .before .before .put-addresses in
     let fixed = c .before .before .before .before .before .before .before .before .before .before .put-fixed in
     let h = c .before .before .before .before .before .before .before .before .before .before .before .before .before .args .self in

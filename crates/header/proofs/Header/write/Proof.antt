@@ -16,7 +16,7 @@ room c κs =
 written : tie.Need-returns
 written c =
     let found = c .before .before .before .before .before .before in
-    (sym (found .n .given .1) ∙ found .before .before .write-answer .ensures, rw (← c .before .before .before .counter-of .ensures) (c .before .before .put .ensures))
+    (sym (found .n .given .1) ∙ found .before .before .write-answer .ensures, rw (← c .before .before .before .number .ensures) (c .before .before .put .ensures))
 
 pub write-spec : {M : Type 1} → statement M
 write-spec =

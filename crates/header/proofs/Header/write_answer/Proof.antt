@@ -9,18 +9,18 @@ use Rattle.header.proofs.Header.write_answer.Tie as tie
 
 too-large : tie.Need-returns
 unfolding writeHeader
-too-large c = simp (sym (c .before .level-too-large .ensures) ∙ c .if1 .taken)
+too-large c = simp (sym (c .before .too-large .ensures) ∙ c .if1 .taken)
 
 below-three : tie.Need-returns-2
 unfolding writeHeader
-below-three c = simp (sym (c .before .before .level-too-large .ensures) ∙ c .before .if1 .left, lt-ltb _ _ (c .if2 .taken))
+below-three c = simp (sym (c .before .before .too-large .ensures) ∙ c .before .if1 .left, lt-ltb _ _ (c .if2 .taken))
 
 compression : tie.Need-returns-3
 unfolding writeHeader
 compression c =
     let room = c .before .before in
     simp (
-      sym (room .before .before .level-too-large .ensures) ∙ room .before .if1 .left,
+      sym (room .before .before .too-large .ensures) ∙ room .before .if1 .left,
       le-ltb _ _ (room .if2 .left),
       sym (c .before .lacks-address .ensures) ∙ c .if3 .taken,
     )
@@ -31,7 +31,7 @@ addresses c =
     let address = c .before .before in
     let room = address .before .before in
     simp (
-      sym (room .before .before .level-too-large .ensures) ∙ room .before .if1 .left,
+      sym (room .before .before .too-large .ensures) ∙ room .before .if1 .left,
       le-ltb _ _ (room .if2 .left),
       sym (address .before .lacks-address .ensures) ∙ address .if3 .left,
       sym (c .before .addresses-end .ensures .0),
@@ -45,7 +45,7 @@ counter c =
     let address = end .before .before in
     let room = address .before .before in
     simp (
-      sym (room .before .before .level-too-large .ensures) ∙ room .before .if1 .left,
+      sym (room .before .before .too-large .ensures) ∙ room .before .if1 .left,
       le-ltb _ _ (room .if2 .left),
       sym (address .before .lacks-address .ensures) ∙ address .if3 .left,
       sym (end .before .addresses-end .ensures .0),
@@ -61,7 +61,7 @@ security c =
     let address = end .before .before in
     let room = address .before .before in
     simp (
-      sym (room .before .before .level-too-large .ensures) ∙ room .before .if1 .left,
+      sym (room .before .before .too-large .ensures) ∙ room .before .if1 .left,
       le-ltb _ _ (room .if2 .left),
       sym (address .before .lacks-address .ensures) ∙ address .if3 .left,
       rw (end .before .addresses-end .ensures .0) at (le-ltb _ _ (end .if4 .left)),
@@ -77,7 +77,7 @@ fits c =
     let address = end .before .before in
     let room = address .before .before in
     simp (
-      sym (room .before .before .level-too-large .ensures) ∙ room .before .if1 .left,
+      sym (room .before .before .too-large .ensures) ∙ room .before .if1 .left,
       le-ltb _ _ (room .if2 .left),
       sym (address .before .lacks-address .ensures) ∙ address .if3 .left,
       rw (end .before .addresses-end .ensures .0) at (le-ltb _ _ (end .if4 .left)),

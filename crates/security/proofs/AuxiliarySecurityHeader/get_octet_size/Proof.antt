@@ -3,7 +3,7 @@
 use mathlib.Core.Path.{ap, _∙_}
 use native.Mathlib.Omega.{arith}
 use borrow.Author.Needs.{needs}
-use Rattle.security.specs.Key.{keyLength}
+use Rattle.key_identifier.specs.Key.{keyLength}
 use Rattle.security.proofs.AuxiliarySecurityHeader.get_octet_size.Statement.{statement}
 use Rattle.security.proofs.AuxiliarySecurityHeader.get_octet_size.Tie as tie
 

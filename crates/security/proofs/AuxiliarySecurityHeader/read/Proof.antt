@@ -7,7 +7,7 @@ use borrow.Author.Needs.{needs}
 use Rattle.octets.proofs.Part.{fewer, enough}
 use Rattle.security_control.specs.declared.SecurityControl.{SecurityControl}
 use Rattle.security_control.specs.Control.{controlIn}
-use Rattle.security.specs.Key.{keyLength}
+use Rattle.key_identifier.specs.Key.{keyLength}
 use Rattle.security.specs.Security.{controlAt, securityIn}
 use Rattle.security.specs.Answer.{readSecurity}
 use Rattle.security.proofs.Laws.{five-short}

@@ -1,13 +1,13 @@
--- `security::put_source` meets its contract: an absent source stores nothing, a present one its number.
+-- `key_identifier::put_source` meets its contract: an absent source stores nothing, a present one its number.
 -- Assumes nothing.
 use mathlib.Core.Path.{ap, sym, _∙_}
 use native.Mathlib.Omega.{arith}
 use borrow.Author.Needs.{needs}
 use Rattle.octets.proofs.Buffer.{laid-none}
-use Rattle.security.specs.declared.OptionalKeySource.the-variants.{Present}
-use Rattle.security.specs.Key.{sourceLength}
-use Rattle.security.proofs.put_source.Statement.{statement}
-use Rattle.security.proofs.put_source.Tie as tie
+use Rattle.key_identifier.specs.declared.OptionalKeySource.the-variants.{Present}
+use Rattle.key_identifier.specs.Key.{sourceLength}
+use Rattle.key_identifier.proofs.put_source.Statement.{statement}
+use Rattle.key_identifier.proofs.put_source.Tie as tie
 
 absent : tie.Need-returns
 absent c = rw (c .enum-told .given .1) (omega arith, sym (laid-none _ _))

@@ -11,13 +11,13 @@ use Rattle.octets.specs.Little.{split, number, Bytes}
 use Rattle.octets.proofs.Little.{split-length, split-bytes, bytes-append, number-back, number-again, number-more, number-small}
 use Rattle.security_control.specs.declared.KeyIdentifierMode.{KeyIdentifierMode}
 use Rattle.security_control.specs.declared.KeyIdentifierMode.the-variants as Mode
-use Rattle.security.specs.declared.KeySource.the-variants.{Short, Long}
-use Rattle.security.specs.declared.OptionalKeySource.{OptionalKeySource}
-use Rattle.security.specs.declared.OptionalKeySource.the-variants as Source
-use Rattle.security.specs.declared.KeyIdentifier.{KeyIdentifier}
-use Rattle.security.specs.declared.OptionalKeyIdentifier.{OptionalKeyIdentifier}
-use Rattle.security.specs.declared.OptionalKeyIdentifier.the-variants.{Absent, Present}
-use Rattle.security.specs.Key.{sourceMode, modeOfKey, keyLength, keyIn, sourceLength, sourceBytes, keyBytes, SmallSource, SmallKey}
+use Rattle.key_identifier.specs.declared.KeySource.the-variants.{Short, Long}
+use Rattle.key_identifier.specs.declared.OptionalKeySource.{OptionalKeySource}
+use Rattle.key_identifier.specs.declared.OptionalKeySource.the-variants as Source
+use Rattle.key_identifier.specs.declared.KeyIdentifier.{KeyIdentifier}
+use Rattle.key_identifier.specs.declared.OptionalKeyIdentifier.{OptionalKeyIdentifier}
+use Rattle.key_identifier.specs.declared.OptionalKeyIdentifier.the-variants.{Absent, Present}
+use Rattle.key_identifier.specs.Key.{sourceMode, modeOfKey, keyLength, keyIn, sourceLength, sourceBytes, keyBytes, SmallSource, SmallKey}
 
 -- a key identifier is its source and one byte
 pub source-key : (source : OptionalKeySource) → keyLength (sourceMode source) ≡ sourceLength source + 1

@@ -1,11 +1,11 @@
--- `security::key_at` meets its contract: its bytes are there by what it asks, and each field is the definition's.
+-- `key_identifier::key_at` meets its contract: its bytes are there by what it asks, and each field is the definition's.
 -- Assumes nothing.
 use mathlib.Core.Path.{ap}
 use native.Mathlib.Omega.{arith}
 use borrow.Author.Needs.{needs}
-use Rattle.security.specs.Key.{keyLength, keyIn}
-use Rattle.security.proofs.key_at.Statement.{statement}
-use Rattle.security.proofs.key_at.Tie as tie
+use Rattle.key_identifier.specs.Key.{keyLength, keyIn}
+use Rattle.key_identifier.proofs.key_at.Statement.{statement}
+use Rattle.key_identifier.proofs.key_at.Tie as tie
 
 pub key-at-spec : {M : Type 1} → statement M
 unfolding keyIn

@@ -1,13 +1,13 @@
--- `security::put_key` meets its contract: an absent key identifier stores nothing, a present one its source and then its index.
+-- `key_identifier::put_key` meets its contract: an absent key identifier stores nothing, a present one its source and then its index.
 -- Assumes nothing.
 use mathlib.Core.Path.{ap, sym, _∙_}
 use native.Mathlib.Omega.{arith}
 use borrow.Author.Needs.{needs}
 use Rattle.octets.proofs.Buffer.{laid-none, laid-join}
-use Rattle.security.specs.Key.{modeOfKey, keyLength, keyBytes}
-use Rattle.security.proofs.Keys.{source-key, source-length}
-use Rattle.security.proofs.put_key.Statement.{statement}
-use Rattle.security.proofs.put_key.Tie as tie
+use Rattle.key_identifier.specs.Key.{modeOfKey, keyLength, keyBytes}
+use Rattle.key_identifier.proofs.Keys.{source-key, source-length}
+use Rattle.key_identifier.proofs.put_key.Statement.{statement}
+use Rattle.key_identifier.proofs.put_key.Tie as tie
 
 absent : tie.Need-returns
 unfolding keyBytes

@@ -1,0 +1,37 @@
+-- What may be absent: a header's security part, and the counter that a writer is handed.
+use Prim.Native.Nat.{ℕ}
+use mathlib.Core.Bool.{Bool, true, false}
+use mathlib.Core.List.{List, []}
+use lib.Dec.{ltb}
+use Rattle.security.specs.Security.{levelOf, securityLength, securityBytes}
+use Rattle.security.specs.declared.OptionalCounter.{OptionalCounter}
+use Rattle.security.specs.declared.OptionalCounter.the-variants as Counter
+use Rattle.security.specs.declared.OptionalSecurityHeader.{OptionalSecurityHeader}
+use Rattle.security.specs.declared.OptionalSecurityHeader.the-variants.{Absent, Present}
+
+abbrev pub isPresent : OptionalSecurityHeader → Bool
+isPresent Absent = false
+isPresent (Present k) = true
+
+-- refusal 8: a security level above 7, where there is a security part
+abbrev pub levelTooLarge : OptionalSecurityHeader → Bool
+levelTooLarge Absent = false
+levelTooLarge (Present k) = ltb 7 (levelOf k)
+
+abbrev pub optionalLength : OptionalSecurityHeader → ℕ
+optionalLength Absent = 0
+optionalLength (Present k) = securityLength k
+
+-- its bytes, written with a counter
+abbrev pub optionalBytes : OptionalSecurityHeader → ℕ → List ℕ
+optionalBytes Absent counter = []
+optionalBytes (Present k) counter = securityBytes k counter
+
+abbrev pub missing : OptionalCounter → Bool
+missing Counter.Absent = true
+missing (Counter.Present n) = false
+
+-- the counter that is written; with none, nothing is
+abbrev pub counterOf : OptionalCounter → ℕ
+counterOf Counter.Absent = 0
+counterOf (Counter.Present n) = n
