@@ -20,7 +20,7 @@ use Rattle.frame_control.specs.declared.FrameControlRead.the-variants.{R
 use Rattle.frame_control.specs.Types.{typeOf, typeBits}
 use Rattle.frame_control.specs.Versions.{versionOf, versionBits}
 use Rattle.frame_control.specs.Modes.{modeOf, modeBits}
-use Rattle.frame_control.specs.Control.{controlOf, controlIn, controlBits}
+use Rattle.frame_control.specs.Control.{controlOf, controlIn, controlBits, quietControl}
 use Rattle.frame_control.proofs.Known.{type-back, type-again, type-small, version-back, version-again, version-small, mode-back, mode-again, mode-small}
 
 -- each field fits its bits
@@ -156,3 +156,21 @@ control-again w c h e =
       ap (λ (c : FrameControl). bitOf (c .«ie_present»)) (k .fields) ∙ bit-again (bits w 9 1) (omega arith),
     )
     (joined w h)
+
+-- without the two flags the number loses their bits
+flags : (c : FrameControl) → controlBits (quietControl c) + 256 * (bitOf (c .«seq_no_suppress») + 2 * bitOf (c .«ie_present»)) ≡ controlBits c
+unfolding controlBits
+flags c = omega arith
+
+three-bits : (u v x y q i p r7 r8 r9 r10 : ℕ) → u + 256 * (q + 2 * i) ≡ v → v ≡ y - x * 128 → r10 ≡ p * 128 + r7 → r8 ≡ x * 128 + r7 → r9 ≡ q * 256 + r8 → r10 ≡ i * 512 + r9 →
+    u ≡ y - p * 128
+three-bits u v x y q i p r7 r8 r9 r10 e f g7 g8 g9 g10 = omega arith
+
+-- a number that was read, put together again with both flags false, has its bits 7, 8 and 9 cleared and no other
+pub control-quiet : (w : ℕ) (c : FrameControl) → w < 256 ^ 2 → controlIn w ≡ Read c → controlBits (quietControl c) ≡ clear 7 3 w
+control-quiet w c h e =
+    let k = taken w c e in
+    let suppress : bitOf (c .«seq_no_suppress») ≡ bits w 8 1 = ap (λ (c : FrameControl). bitOf (c .«seq_no_suppress»)) (k .fields) ∙ bit-again (bits w 8 1) (omega arith) in
+    let elements : bitOf (c .«ie_present») ≡ bits w 9 1 = ap (λ (c : FrameControl). bitOf (c .«ie_present»)) (k .fields) ∙ bit-again (bits w 9 1) (omega arith) in
+    three-bits (controlBits (quietControl c)) (controlBits c) (bits w 7 1) w (bits w 8 1) (bits w 9 1) (bits w 7 3) (w % 128) (w % 256) (w % 512) (w % 1024)
+    (rw (suppress, elements) at (flags c)) (control-again w c h e) (bits-join w 7 3) (bits-join w 7 1) (bits-join w 8 1) (bits-join w 9 1)

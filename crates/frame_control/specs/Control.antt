@@ -2,6 +2,7 @@
 -- request 5, PAN compression 6, bit 7 not read, sequence suppression 8, elements present 9, destination mode 10-11, version 12-13, source
 -- mode 14-15.
 use Prim.Native.Nat.{ℕ, _+_, _*_, _%_}
+use mathlib.Core.Bool.{false}
 use Rattle.octets.specs.declared.Outcome.{Outcome}
 use Rattle.octets.specs.Bits.{bits, bit, bitOf}
 use Rattle.octets.specs.Outcome.{accepted, refused}
@@ -47,6 +48,22 @@ unfoldable pub controlBits : FrameControl → ℕ
 controlBits c =
     (typeBits (c .«frame_type») + 8 * bitOf (c .security) + 16 * bitOf (c .«frame_pending») + 32 * bitOf (c .«ack_request») + 64 * bitOf (c .«pan_id_compress»))
     + 256 * (bitOf (c .«seq_no_suppress») + 2 * bitOf (c .«ie_present») + 4 * modeBits (c .destination) + 16 * versionBits (c .version) + 64 * modeBits (c .source))
+
+-- the fields with the flags of bits 8 and 9 false, as a header's writer puts them together
+abbrev pub quietControl : FrameControl → FrameControl
+quietControl c =
+    record {
+      «frame_type» = c .«frame_type»;
+      security = c .security;
+      «frame_pending» = c .«frame_pending»;
+      «ack_request» = c .«ack_request»;
+      «pan_id_compress» = c .«pan_id_compress»;
+      «seq_no_suppress» = false;
+      «ie_present» = false;
+      destination = c .destination;
+      version = c .version;
+      source = c .source;
+    }
 
 -- the refusal numbers 2, 3 and 4
 abbrev pub controlRefusal : FrameControlRefusal → ℕ

@@ -35,7 +35,7 @@ use Rattle.header.specs.declared.HeaderWritten.the-variants.{Written}
 use Rattle.header.specs.declared.SecurityPart.the-variants as Part
 use Rattle.header.specs.Record.{headerOf, secured, sourceOwn, addressesEnd, headerLength}
 use Rattle.header.specs.Read.{unshared, sourceEnd, destinationIn, sourceIn, behindPlace, securityPart, readHeader}
-use Rattle.header.specs.Write.{bothPresent, lacksAddress, writeTests, writeHeader, writtenOutcome, writtenControl, fixedBytes, addressesBytes, headerBytes}
+use Rattle.header.specs.Write.{bothPresent, writeTests, writeHeader, writtenOutcome, writtenControl, fixedBytes, addressesBytes, headerBytes}
 use Rattle.header.proofs.Laws.{fixed-length, addresses-length, header-length}
 use Rattle.header.proofs.Apart.{Stages, headerIn, together}
 use Rattle.header_facts.specs.RoundTrip.{toldPart, toldHeader, Small, SmallPart}
@@ -55,6 +55,9 @@ part-back (Present k) counter before after at e l s c =
     let level : levelOf k ≤ 7 = ltb-false 7 (levelOf k) l in
     ap (λ r. behindPlace r at) (security-back k counter before after at e (omega arith, s) c)
 
+same : (m n : ℕ) → Written m ≡ Written n → m ≡ n
+same m n e = cc
+
 -- two addresses under compression share a PAN id
 both-shared : (b : Bool) (d s : OptionalAddress) → cond b (not (bothPresent d s)) false ≡ false → unshared b (modeOf d) ≡ false
 both-shared false d s e = refl
@@ -63,7 +66,7 @@ both-shared true (Address.Present (Short p a)) s e = refl
 both-shared true (Address.Present (Extended p a)) s e = refl
 
 module _ (h : Header) (counter : ℕ) (more : List ℕ) (small : Small h) (fits : counter < 256 ^ 4)
-    (level : levelTooLarge (h .«auxiliary_security_header») ≡ false) (addressed : lacksAddress h ≡ false) where
+    (level : levelTooLarge (h .«auxiliary_security_header») ≡ false) (shared : unshared (h .«pan_id_compress») (modeOf (h .destination)) ≡ false) where
   abbrev bytes : List ℕ
   bytes = headerBytes h counter ++ more
 
@@ -138,7 +141,7 @@ module _ (h : Header) (counter : ℕ) (more : List ℕ) (small : Small h) (fits 
   stages = record {
     three = omega (arith, there);
     control = control-read;
-    shared = both-shared (h .«pan_id_compress») (h .destination) (h .source) addressed;
+    shared = shared;
     addresses = omega (arith, there);
     security = security-read;
   }
@@ -148,3 +151,16 @@ module _ (h : Header) (counter : ℕ) (more : List ℕ) (small : Small h) (fits 
   header-back =
       together bytes (writtenControl h) (toldPart (h .«auxiliary_security_header») counter) (headerLength h) stages
       ∙ (λ i. Read (headerOf (writtenControl h) (seq-read i) (destination-read i) (source-read i) (toldPart (h .«auxiliary_security_header») counter)) (headerLength h))
+
+abbrev accepting : HeaderWritten → Bool
+accepting r = eqb (writtenOutcome r .number) 0
+
+-- so are those of each record that the writer accepts
+pub record-side : (h : Header) (counter : OptionalCounter) (room n : ℕ) (more : List ℕ) → Small h → counterOf counter < 256 ^ 4 →
+    writeHeader h counter room ≡ Written n → readHeader (headerBytes h (counterOf counter) ++ more) ≡ Read (toldHeader h (counterOf counter)) n
+unfolding writeHeader
+record-side h counter room n more small fits e =
+    let q = none-holds accepting (writeTests h counter room) (Written (headerLength h)) (refl, (refl, (refl, (refl, (refl, (refl, tt)))))) (ap accepting e) in
+    let long : headerLength h ≡ n = same (headerLength h) n (sym (q .1) ∙ e) in
+    header-back h (counterOf counter) more small fits (q .0 .0) (both-shared (h .«pan_id_compress») (h .destination) (h .source) (q .0 .1 .1 .0))
+    ∙ ap (Read (toldHeader h (counterOf counter))) long

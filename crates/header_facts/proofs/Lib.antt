@@ -1,1 +1,4 @@
 pub mod Back
+pub mod Again
+pub mod RoundTrip
+pub mod Order

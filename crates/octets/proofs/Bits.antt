@@ -4,14 +4,15 @@ use Prim.Native.Nat.{ℕ, zero, suc, _+_, _*_, _%_, _^_, _<_}
 use native.Mathlib.Nat.{mul-comm}
 use native.Mathlib.Omega.{arith}
 use mathlib.Core.Bool.{Bool, true, false}
-use mathlib.Core.List.{List, [], _∷_}
+use mathlib.Core.List.{List, [], _∷_, _++_}
 use mathlib.Core.Logic.{_⊎_, inl, inr}
-use mathlib.Core.Path.{_≡_, refl, sym, _∙_}
+use mathlib.Core.Path.{_≡_, refl, sym, ap, _∙_}
 use borrow.Author.Tests.{eqb-true}
 use lib.Arith.{mod-mul}
 use lib.Dec.{eqb}
+use lib.ListN.{length}
 use lib.Pow.{pow-add, pow-pos}
-use Rattle.octets.specs.Bits.{bits, bitOf, find}
+use Rattle.octets.specs.Bits.{bits, bitOf, clearAt, find}
 use Rattle.octets.proofs.Order.{cases, holds?}
 
 -- a flag to a bit and back
@@ -45,3 +46,11 @@ find-again bitsOf (entry ∷ rest) other make n h =
     cases (holds? (eqb n (entry .0)))
     (λ e. inr (entry .1, simp e, h .0 ∙ sym (eqb-true n (entry .0) e)))
     (λ e. simp e (find-again bitsOf rest other make n (h .1)))
+
+-- bits cleared behind other bytes
+clear-after : (p l : List ℕ) (at count : ℕ) → clearAt (length p) at count (p ++ l) ≡ p ++ clearAt 0 at count l
+clear-after [] l at count = refl
+clear-after (x ∷ p) l at count = ap (λ (l : List ℕ). x ∷ l) (clear-after p l at count)
+
+pub clear-behind : (p l : List ℕ) (place at count : ℕ) → length p ≡ place → clearAt place at count (p ++ l) ≡ p ++ clearAt 0 at count l
+clear-behind p l place at count e = rw (← e) (clear-after p l at count)
