@@ -1,0 +1,51 @@
+-- The descriptor of a guaranteed time slot, document 01, "Beacon layout" (IEEE 802.15.4-2011, 5.2.2.1.5): short address (2), start (low
+-- half), length (high half).
+use Prim.Native.Nat.{ℕ, _+_, _*_, _%_}
+use mathlib.Core.Bool.{Bool, _||_}
+use mathlib.Core.List.{List, [], _∷_, _++_}
+use lib.Dec.{ltb}
+use Rattle.octets.specs.Bits.{bits}
+use Rattle.octets.specs.Little.{number, split}
+use Rattle.octets.specs.Order.{first}
+use Rattle.octets.specs.Outcome.{accepted, refused}
+use Rattle.octets.specs.Part.{ends}
+use Rattle.identifiers.specs.declared.ShortAddress.{ShortAddress}
+use Rattle.identifiers.specs.ShortAddress.{short}
+use Rattle.beacon_part.specs.declared.ValueWritten.{ValueWritten}
+use Rattle.beacon_part.specs.Value.{writeValue}
+use Rattle.time_slot.specs.declared.Direction.{Direction}
+use Rattle.time_slot.specs.declared.Direction.the-variants.{Receive}
+use Rattle.time_slot.specs.declared.GuaranteedTimeSlotDescriptor.{GuaranteedTimeSlotDescriptor}
+use Rattle.time_slot.specs.declared.DescriptorRead.{DescriptorRead}
+
+abbrev pub descriptorOf : ShortAddress → ℕ → ℕ → Direction → GuaranteedTimeSlotDescriptor
+descriptorOf address start length direction =
+    record { «short_address» = address; «starting_slot» = start; length = length; direction = direction }
+
+-- an unused place: a broadcast address, start 0, length 0, Receive
+abbrev pub emptyDescriptor : GuaranteedTimeSlotDescriptor
+emptyDescriptor = descriptorOf (short 0xffff) 0 0 Receive
+
+-- the descriptor at a place, with its direction, which stands elsewhere
+unfoldable pub descriptorIn : List ℕ → ℕ → Direction → GuaranteedTimeSlotDescriptor
+descriptorIn s at direction = descriptorOf (short (number s at 2)) (number s (at + 2) 1 % 16) (bits (number s (at + 2) 1) 4 4) direction
+
+-- and what reading it there alone answers
+unfoldable pub readDescriptor : List ℕ → ℕ → DescriptorRead
+readDescriptor s at =
+    first ((ends s at 3, record { outcome = refused 1; slot = emptyDescriptor }) ∷ [])
+    (record { outcome = accepted 3; slot = descriptorIn s at Receive })
+
+-- the three bytes
+abbrev pub slotByte : GuaranteedTimeSlotDescriptor → ℕ
+slotByte x = x .«starting_slot» + 16 * x .length
+
+unfoldable pub descriptorBytes : GuaranteedTimeSlotDescriptor → List ℕ
+descriptorBytes x = split 2 (x .«short_address» .0) ++ split 1 (slotByte x)
+
+-- refusal 8: a start or a length above 15
+unfoldable pub descriptorTooLarge : GuaranteedTimeSlotDescriptor → Bool
+descriptorTooLarge x = ltb 15 (x .«starting_slot») || ltb 15 (x .length)
+
+unfoldable pub writeDescriptor : GuaranteedTimeSlotDescriptor → List ℕ → ℕ → ValueWritten
+writeDescriptor x out at = writeValue (descriptorTooLarge x) out at 3

@@ -1,0 +1,15 @@
+-- The direction of a guaranteed time slot: document 01, "set is Transmit" (IEEE 802.15.4-2011, 5.2.2.1.4).
+use Prim.Native.Nat.{ℕ}
+use mathlib.Core.Bool.{cond}
+use lib.Dec.{eqb}
+use Rattle.time_slot.specs.declared.Direction.{Direction}
+use Rattle.time_slot.specs.declared.Direction.the-variants.{Receive, Transmit}
+
+-- the bit that stands for a direction: the one place that says which of the two a set bit means
+abbrev pub directionBit : Direction → ℕ
+directionBit Receive = 0
+directionBit Transmit = 1
+
+-- the direction that a bit stands for
+abbrev pub directionOf : ℕ → Direction
+directionOf b = cond (eqb b (directionBit Transmit)) Transmit Receive

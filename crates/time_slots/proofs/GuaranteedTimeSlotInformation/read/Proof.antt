@@ -1,0 +1,52 @@
+-- `time_slots::GuaranteedTimeSlotInformation::read` meets its contract: its tests are the definition's, in turn.
+-- Assumes nothing.
+use Prim.Native.Nat.{_%_}
+use native.Mathlib.Omega.{arith}
+use borrow.Author.Needs.{needs}
+use Rattle.octets.proofs.Part.{fewer, enough}
+use Rattle.time_slots.specs.TimeSlots.{timeSlotsIn, readTimeSlots}
+use Rattle.time_slots.proofs.TimeSlots.{demand-enough}
+use Rattle.time_slots.proofs.GuaranteedTimeSlotInformation.read.Statement.{statement}
+use Rattle.time_slots.proofs.GuaranteedTimeSlotInformation.read.Tie as tie
+
+no-header : tie.Need-returns
+unfolding readTimeSlots
+no-header c = simp (fewer (c .before .before .left .ensures) (c .before .if1 .taken), c .refused .ensures)
+
+no-slots : tie.Need-returns-2
+unfolding readTimeSlots
+no-slots c =
+    let two = c .before in
+    let header = two .before .before .before in
+    let one = header .before in
+    simp (
+      enough (one .before .left .ensures) (one .if1 .left),
+      fewer (two .before .before .left2 .ensures) (rw (two .before .slots-demand .ensures .0, header .u8-at .ensures) at (two .if2 .taken)),
+      c .refused2 .ensures,
+    )
+
+there : tie.Need-slots-at-requires
+there c κs =
+    let demand = c .before in
+    let header = demand .before .before in
+    (omega arith, omega (arith, demand .slots-demand .ensures .0, demand .before .left2 .ensures, demand-enough (header .u8-at .result % 8)))
+
+all : tie.Need-returns-3
+unfolding readTimeSlots timeSlotsIn
+all c =
+    let two = c .before .before in
+    let header = two .before .before .before in
+    let one = header .before in
+    simp (
+      enough (one .before .left .ensures) (one .if1 .left),
+      enough (two .before .before .left2 .ensures) (rw (two .before .slots-demand .ensures .0, header .u8-at .ensures) at (two .if2 .left)),
+      c .slots-length .ensures .0,
+      c .before .slots-at .ensures,
+      header .u8-at .ensures,
+    )
+
+pub read-spec : {M : Type 1} → statement M
+read-spec =
+    tie.close
+    (tie.spec (λ c κs. search needs) (λ c κs. search needs) no-header (λ c κs. search needs) (λ c. search needs) (λ c κs. search needs) (λ c κs. search needs)
+    (λ c. search needs) (λ c κs. search needs) no-slots (λ c. search needs) there (λ c κs. search needs) (λ c. search needs) all)

@@ -1,0 +1,78 @@
+-- Laws of GTS information.
+-- Assumes nothing.
+use Prim.Native.Nat.{ℕ, zero, suc, _+_, _-_, _*_, _^_, _≤_, _<_}
+use native.Mathlib.Nat.{pow-suc}
+use native.Mathlib.Omega.{arith}
+use mathlib.Core.Bool.{false}
+use mathlib.Core.List.{List, [], _∷_, _++_, flatMap}
+use mathlib.Core.Path.{_≡_, refl, sym}
+use borrow.Author.Tests.{ltb-false}
+use lib.ListN.{length, getD, take, drop, length-take, length-drop}
+use lib.Pow.{pow-mono}
+use Rattle.octets.specs.Little.{split}
+use Rattle.beacon_part.specs.Seven.{some}
+use Rattle.beacon_part.proofs.Value.{neither}
+use Rattle.beacon_part.proofs.Seven.{rest-next}
+use Rattle.time_slot.specs.declared.Direction.{Direction}
+use Rattle.time_slot.specs.declared.Direction.the-variants.{Receive, Transmit}
+use Rattle.time_slot.specs.declared.GuaranteedTimeSlotDescriptor.{GuaranteedTimeSlotDescriptor}
+use Rattle.time_slot.specs.Direction.{directionBit}
+use Rattle.time_slot.specs.Descriptor.{descriptorBytes, descriptorTooLarge}
+use Rattle.time_slots.specs.declared.GuaranteedTimeSlotInformation.{GuaranteedTimeSlotInformation}
+use Rattle.time_slots.specs.TimeSlots.{slotsLength, slotsDemand, directionsOf, listBytes, timeSlotsTooLarge}
+
+-- how many bytes slots take and are asked for
+pub length-some : (n : ℕ) → (n ≡ 0 → ⊥) → slotsLength n ≡ 1 + 3 * n
+length-some zero h = absurd (h refl)
+length-some (suc n) h = refl
+
+pub demand-some : (n : ℕ) → (n ≡ 0 → ⊥) → slotsDemand n ≡ 2 + 3 * n
+demand-some zero h = absurd (h refl)
+demand-some (suc n) h = refl
+
+-- the reader sees the bytes that it takes
+pub demand-enough : (n : ℕ) → slotsLength n ≤ slotsDemand n
+demand-enough zero = omega arith
+demand-enough (suc n) = omega arith
+
+-- one slot more before the others, the first in the lowest bit
+pub directions-more : (l : List GuaranteedTimeSlotDescriptor) (n i : ℕ) (d : GuaranteedTimeSlotDescriptor) {first rest : ℕ} → n ≤ length l → i ≤ n → 0 < i →
+    first ≡ directionBit (getD l (i - 1) d .direction) → rest ≡ directionsOf (drop i (take n l)) → first + 2 * rest ≡ directionsOf (drop (i - 1) (take n l))
+unfolding directionsOf
+directions-more l n i d k h p e f =
+    let back : i - 1 + 1 ≡ i = omega arith in
+    rw (rest-next l n (i - 1) d k (omega arith), back, e, f)
+
+pub direction-small : (d : Direction) → directionBit d < 2
+direction-small Receive = omega arith
+direction-small Transmit = omega arith
+
+pub directions-small : (l : List GuaranteedTimeSlotDescriptor) → directionsOf l < 2 ^ length l
+unfolding directionsOf
+directions-small [] = omega arith
+directions-small (x ∷ l) = omega (arith, direction-small (x .direction), directions-small l, pow-suc 2 (length l))
+
+-- the directions that are left after at least one of at most seven are below 64
+pub directions-bound : (l : List GuaranteedTimeSlotDescriptor) (n i : ℕ) → n ≤ 7 → 0 < i → directionsOf (drop i (take n l)) < 64
+directions-bound l n i h k =
+    let short : length (drop i (take n l)) ≤ 6 = rw (length-drop, length-take) (omega arith) in
+    omega (arith, directions-small (drop i (take n l)), pow-mono short)
+
+-- what follows the header, for no slot and for some
+pub list-none : (l : List GuaranteedTimeSlotDescriptor) (n : ℕ) → n ≡ 0 → listBytes (take n l) ≡ []
+unfolding listBytes
+list-none l n e = rw e
+
+pub list-some : (l : List GuaranteedTimeSlotDescriptor) (n : ℕ) → n ≤ length l → (n ≡ 0 → ⊥) →
+    listBytes (take n l) ≡ split 1 (directionsOf (take n l)) ++ flatMap descriptorBytes (take n l)
+unfolding listBytes
+list-some [] zero h k = absurd (k refl)
+list-some [] (suc n) h k = absurd (omega arith)
+list-some (x ∷ l) zero h k = absurd (k refl)
+list-some (x ∷ l) (suc n) h k = refl
+
+-- a count of at most seven, and no slot in use with a number too large
+pub fitting : (x : GuaranteedTimeSlotInformation) → timeSlotsTooLarge x ≡ false →
+    (x .«slot_count» ≤ 7) × (some descriptorTooLarge (take (x .«slot_count») (x .slots)) ≡ false)
+unfolding timeSlotsTooLarge
+fitting x e = let both = neither _ _ e in (ltb-false 7 (x .«slot_count») (both .0), both .1)

@@ -1,0 +1,239 @@
+// The GTS information of a beacon: a header with permit and count, and for a count above 0 a byte of directions and the descriptors of the
+// guaranteed time slots.
+ghost use mathlib.Core.Path.{_≡_};
+ghost use mathlib.Core.Bool.{false};
+ghost use mathlib.Core.List.{flatMap};
+ghost use Prim.Native.Nat.{_+_, _-_, _*_, _≤_, _<_};
+ghost use lib.ListN.{length, take};
+ghost use Rattle.octets.specs.Buffer.{laid, after};
+ghost use Rattle.beacon_part.specs.Value.{valueOutcome};
+ghost use Rattle.beacon_part.specs.Seven.{some};
+ghost use Rattle.time_slot.specs.Descriptor.{descriptorBytes, descriptorTooLarge};
+ghost use Rattle.time_slots.specs.TimeSlots.{slotsLength, slotsDemand, slotAt, slotsIn, emptyTimeSlots, timeSlotsRefused, timeSlotsIn, readTimeSlots, directionsOf, listBytes, timeSlotsHeader, timeSlotsBytes, timeSlotsSize, timeSlotsTooLarge, writeTimeSlots};
+use beacon_part::ValueWritten;
+use octets::Outcome;
+use octets::bit_of;
+use octets::left;
+use octets::put;
+use octets::u8_at;
+use time_slot::Direction;
+use time_slot::GuaranteedTimeSlotDescriptor;
+
+// How many bytes n slots take behind the header. Asks for at most seven.
+fn slots_length(n: usize) -> usize
+    requires { ⌜ n ≤ 7 ⌝ }
+    ensures { λ r. ⌜ (r ≡ slotsLength n) × (r ≤ 22) ⌝ }
+{
+    if n == 0 { 0 } else { 1 + 3 * n }
+}
+
+// How many bytes the reader wants to see behind the header of n slots. Asks for at most seven.
+fn slots_demand(n: usize) -> usize
+    requires { ⌜ n ≤ 7 ⌝ }
+    ensures { λ r. ⌜ (r ≡ slotsDemand n) × (r ≤ 23) ⌝ }
+{
+    if n == 0 { 0 } else { 2 + 3 * n }
+}
+
+// Slot k of the list whose directions stand at a place. Asks that both are there.
+fn slot_at(s: &[u8], at: usize, k: usize) -> GuaranteedTimeSlotDescriptor
+    requires { ⌜ (k < 7) × (at + 1 + 3 * k + 3 ≤ length (now s)) ⌝ }
+    ensures { λ r. ⌜ r ≡ slotAt (now (s .entry)) at k ⌝ }
+{
+    let direction = Direction::from_bit((u8_at(s, at) >> k) % 2);
+    GuaranteedTimeSlotDescriptor::at(s, at + 1 + 3 * k, direction)
+}
+
+// The n slots of the list at a place, and empty ones behind them. Asks that they are there and at most seven.
+fn slots_at(s: &[u8], at: usize, n: usize) -> [GuaranteedTimeSlotDescriptor; 7]
+    requires { ⌜ (n ≤ 7) × (at + slotsLength n ≤ length (now s)) ⌝ }
+    ensures { λ r. ⌜ r ≡ slotsIn (now (s .entry)) at n ⌝ }
+{
+    let mut slots = [GuaranteedTimeSlotDescriptor::new(); 7];
+    let mut k = 0;
+    while k < n {
+        slots[k] = slot_at(s, at, k);
+        k += 1;
+    }
+    slots
+}
+
+// Some of the first n slots has a number too large. Asks for at most seven.
+fn some_too_large(slots: [GuaranteedTimeSlotDescriptor; 7], n: usize) -> bool
+    requires { ⌜ n ≤ 7 ⌝ }
+    ensures { λ r. ⌜ r ≡ some descriptorTooLarge (take n slots) ⌝ }
+{
+    let mut k = 0;
+    while k < n {
+        let slot = slots[k];
+        if slot.too_large() {
+            return true;
+        }
+        k += 1;
+    }
+    false
+}
+
+// The byte of the first n slots' directions. Asks for at most seven.
+fn directions(slots: [GuaranteedTimeSlotDescriptor; 7], n: usize) -> u8
+    requires { ⌜ n ≤ 7 ⌝ }
+    ensures { λ r. ⌜ r ≡ directionsOf (take n slots) ⌝ }
+{
+    let mut byte = 0;
+    let mut k = n;
+    while 0 < k {
+        k -= 1;
+        let slot = slots[k];
+        let direction = slot.direction;
+        byte = direction.to_bit() + 2 * byte;
+    }
+    byte
+}
+
+// Stores the first n slots side by side and returns the place behind them. Asks that no number is too large, and for that room.
+fn put_slots(slots: [GuaranteedTimeSlotDescriptor; 7], n: usize, out: &mut [u8], at: usize) -> usize
+    requires { ⌜ (n ≤ 7) × ((some descriptorTooLarge (take n slots) ≡ false) × (3 * n ≤ length (now out) - at)) ⌝ }
+    ensures { λ r. ⌜ (r ≡ at + 3 * n) × (now (out .exit) ≡ laid (now (out .entry)) at (flatMap descriptorBytes (take n slots))) ⌝ }
+{
+    let mut k = 0;
+    while k < n {
+        let slot = slots[k];
+        slot.put(out, at + 3 * k);
+        k += 1;
+    }
+    at + 3 * n
+}
+
+// Stores what follows the header: for any slot, the directions and the slots. Asks as above.
+fn put_list(slots: [GuaranteedTimeSlotDescriptor; 7], n: usize, out: &mut [u8], at: usize) -> usize
+    requires { ⌜ (n ≤ 7) × ((some descriptorTooLarge (take n slots) ≡ false) × (slotsLength n ≤ length (now out) - at)) ⌝ }
+    ensures { λ r. ⌜ (r ≡ at + slotsLength n) × (now (out .exit) ≡ laid (now (out .entry)) at (listBytes (take n slots))) ⌝ }
+{
+    if n == 0 {
+        return at;
+    }
+    let byte = directions(slots, n);
+    let next = put(out, at, 1, byte as u64);
+    put_slots(slots, n, out, next)
+}
+
+pub struct GuaranteedTimeSlotInformation {
+    // The coordinator takes requests for slots.
+    pub permit: bool,
+    // How many places of `slots` are in use, at most 7 in a record that can be written.
+    pub slot_count: usize,
+    pub slots: [GuaranteedTimeSlotDescriptor; 7],
+}
+
+// What reading GTS information answers; refused, with the empty one.
+pub struct TimeSlotsRead {
+    pub outcome: Outcome,
+    pub guaranteed_time_slot_info: GuaranteedTimeSlotInformation,
+}
+
+impl TimeSlotsRead {
+    fn refused() -> Self
+        ensures { λ r. ⌜ r ≡ timeSlotsRefused ⌝ }
+    {
+        let guaranteed_time_slot_info = GuaranteedTimeSlotInformation::new();
+        TimeSlotsRead {
+            outcome: Outcome {
+                number: 1,
+                length: 0,
+            },
+            guaranteed_time_slot_info,
+        }
+    }
+}
+
+impl GuaranteedTimeSlotInformation {
+    // No permit and no slots.
+    pub fn new() -> Self
+        ensures { λ r. ⌜ r ≡ emptyTimeSlots ⌝ }
+    {
+        let slots = [GuaranteedTimeSlotDescriptor::new(); 7];
+        GuaranteedTimeSlotInformation {
+            permit: false,
+            slot_count: 0,
+            slots,
+        }
+    }
+
+    // Read alone, it wants to see one byte more behind its slots than it takes, as the crate does: in a beacon another part follows.
+    pub fn read(s: &[u8], at: usize) -> TimeSlotsRead
+        ensures { λ r. ⌜ r ≡ readTimeSlots (now (s .entry)) at ⌝ }
+    {
+        if left(s, at) < 1 {
+            return TimeSlotsRead::refused();
+        }
+        let header = u8_at(s, at);
+        let n = (header % 8) as usize;
+        if left(s, at) < 1 + slots_demand(n) {
+            return TimeSlotsRead::refused();
+        }
+        let slots = slots_at(s, at + 1, n);
+        TimeSlotsRead {
+            outcome: Outcome {
+                number: 0,
+                length: 1 + slots_length(n),
+            },
+            guaranteed_time_slot_info: GuaranteedTimeSlotInformation {
+                permit: header / 128 % 2 == 1,
+                slot_count: n,
+                slots,
+            },
+        }
+    }
+
+    // A count above 7, or a slot in use with a number too large: refusal 8.
+    pub fn too_large(self) -> bool
+        ensures { λ r. ⌜ r ≡ timeSlotsTooLarge self ⌝ }
+    {
+        let slots = self.slots;
+        if 7 < self.slot_count {
+            return true;
+        }
+        some_too_large(slots, self.slot_count)
+    }
+
+    // How many bytes it is written in. Asks for a count of at most seven.
+    pub fn size(self) -> usize
+        requires { ⌜ self .«slot_count» ≤ 7 ⌝ }
+        ensures { λ r. ⌜ (r ≡ timeSlotsSize self) × (r ≤ 23) ⌝ }
+    {
+        1 + slots_length(self.slot_count)
+    }
+
+    // The byte of permit and count. Asks for a count of at most seven.
+    fn header(self) -> u8
+        requires { ⌜ self .«slot_count» ≤ 7 ⌝ }
+        ensures { λ r. ⌜ r ≡ timeSlotsHeader self ⌝ }
+    {
+        self.slot_count as u8 + 128 * bit_of(self.permit)
+    }
+
+    // Stores it and returns the place behind it. Asks that no number is too large, and for that room.
+    pub fn put(self, out: &mut [u8], at: usize) -> usize
+        requires { ⌜ (timeSlotsTooLarge self ≡ false) × (timeSlotsSize self ≤ length (now out) - at) ⌝ }
+        ensures { λ r. ⌜ (r ≡ at + timeSlotsSize self) × (now (out .exit) ≡ laid (now (out .entry)) at (timeSlotsBytes self)) ⌝ }
+    {
+        let slots = self.slots;
+        let header = self.header();
+        let next = put(out, at, 1, header as u64);
+        put_list(slots, self.slot_count, out, next)
+    }
+
+    pub fn write(self, out: &mut [u8], at: usize) -> ValueWritten
+        ensures { λ r. ⌜ (r ≡ writeTimeSlots self (now (out .entry)) at) × (now (out .exit) ≡ after (valueOutcome r) (now (out .entry)) at (timeSlotsBytes self)) ⌝ }
+    {
+        if self.too_large() {
+            return ValueWritten::TooLarge;
+        }
+        let n = self.size();
+        if left(out, at) < n {
+            return ValueWritten::Full;
+        }
+        self.put(out, at);
+        ValueWritten::Written(n)
+    }
+}
