@@ -1,15 +1,15 @@
 -- Laws of arrays of seven.
 -- Assumes nothing.
 use Prim.Native.Nat.{ℕ, zero, suc, _+_, _*_, _≤_, _<_}
-use native.Mathlib.Nat.{mul-add}
+use native.Mathlib.Nat.{mul-zero, mul-suc, mul-add}
 use native.Mathlib.Numerals.{add-one}
 use native.Mathlib.Omega.{arith}
 use mathlib.Core.Bool.{Bool, true, false, cond, _||_}
 use mathlib.Core.List.{List, [], _∷_, _++_, flatMap}
-use mathlib.Core.Path.{_≡_, refl, ap, _∙_}
+use mathlib.Core.Path.{_≡_, refl, sym}
 use borrow.Author.Tests.{ltb-true}
 use lib.Dec.{ltb}
-use lib.ListN.{length, getD, set, take, drop, replicate, drop-of-length-le, length-take}
+use lib.ListN.{length, getD, set, take, drop, replicate, drop-of-length-le, length-append, length-take}
 use lib.Seq.{length-take-le, drop-cons, getD-take}
 use Rattle.octets.specs.Buffer.{laid}
 use Rattle.octets.proofs.Buffer.{laid-join, laid-none}
@@ -95,3 +95,10 @@ module _ {A : Type 0} where
     pub put-done : (out : List ℕ) (p : ℕ) → n ≤ i → laid out p (flatMap bytes (drop i (take n l))) ≡ out
     unfolding flatMap
     put-done out p h = rw (rest-none l n i h) (laid-none out p)
+
+  pub each-length : (bytes : A → List ℕ) (w : ℕ) → ((x : A) → length (bytes x) ≡ w) → (l : List A) (n : ℕ) → n ≤ length l → length (flatMap bytes (take n l)) ≡ w * n
+  unfolding flatMap
+  each-length bytes w long l zero h = sym (mul-zero w)
+  each-length bytes w long [] (suc n) h = absurd (omega arith)
+  each-length bytes w long (x ∷ l) (suc n) h =
+      rw (length-append, long x, each-length bytes w long l n (omega arith), mul-suc) (omega arith)

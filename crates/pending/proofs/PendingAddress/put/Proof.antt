@@ -1,0 +1,30 @@
+-- `pending::PendingAddress::put` meets its contract: the header and the lists, two stores side by side, are one.
+-- Assumes nothing.
+use native.Mathlib.Omega.{arith}
+use borrow.Author.Needs.{needs}
+use Rattle.octets.proofs.Little.{split-length}
+use Rattle.octets.proofs.Buffer.{laid-join}
+use Rattle.pending.specs.Pending.{pendingBytes}
+use Rattle.pending.proofs.Pending.{fitting}
+use Rattle.pending.proofs.PendingAddress.put.Statement.{statement}
+use Rattle.pending.proofs.PendingAddress.put.Tie as tie
+
+lists-room : tie.Need-put-lists-requires
+lists-room c κs =
+    let first = c .before .before .before in
+    let a = first .before .before .before .before .before .before in
+    let fits = fitting (a .args .self) (a .pre .0) in
+    (fits .0, (fits .1, omega (arith, first .put .kept .0, first .put .ensures .0, a .pre .1)))
+
+returns : tie.Need-returns
+unfolding pendingBytes
+returns c =
+    let second = c .before .before in
+    let first = second .before .before .before .before in (
+      omega (arith, second .put-lists .ensures .0, first .put .ensures .0),
+      simp (second .put-lists .ensures .1, first .put .ensures .1, first .before .before .header .ensures)
+          (laid-join _ _ _ 1 _ _ (split-length 1 _) (first .put .ensures .0)),
+    )
+
+pub put-spec : {M : Type 1} → statement M
+put-spec = tie.close (tie.spec (λ c κs. search needs) (λ c. search needs) (λ c κs. search needs) lists-room (λ c. search needs) returns)

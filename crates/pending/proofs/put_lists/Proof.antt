@@ -1,0 +1,29 @@
+-- `pending::put_lists` meets its contract: two stores side by side are one.
+-- Assumes nothing.
+use native.Mathlib.Omega.{arith}
+use borrow.Author.Needs.{needs}
+use Rattle.octets.proofs.Little.{split-length}
+use Rattle.octets.proofs.Buffer.{laid-join}
+use Rattle.beacon_part.proofs.Seven.{each-length}
+use Rattle.pending.specs.Addresses.{shortBytes}
+use Rattle.pending.proofs.put_lists.Statement.{statement}
+use Rattle.pending.proofs.put_lists.Tie as tie
+
+extendeds-room : tie.Need-put-extendeds-requires
+extendeds-room c κs =
+    let first = c .before .before .before in
+    (search needs, omega (arith, first .put-shorts .kept .1 .1 .0, first .put-shorts .ensures .0))
+
+returns : tie.Need-returns
+returns c =
+    let second = c .before .before in
+    let first = second .before .before .before .before in
+    let a = first .before .before .before in (
+      omega (arith, second .put-extendeds .ensures .0, first .put-shorts .ensures .0),
+      simp (second .put-extendeds .ensures .1, first .put-shorts .ensures .1)
+          (laid-join _ _ _ _ _ _ (each-length shortBytes 2 (λ x. split-length 2 (x .0)) (a .args .shorts) (a .args .m) (omega (arith, a .good .0 .1 .0 .1, a .pre .0)))
+          (first .put-shorts .ensures .0)),
+    )
+
+pub put-lists-spec : {M : Type 1} → statement M
+put-lists-spec = tie.close (tie.spec (λ c κs. search needs) extendeds-room (λ c. search needs) returns)

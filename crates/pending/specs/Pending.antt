@@ -1,0 +1,76 @@
+-- Pending addresses, document 01, "Beacon layout" (IEEE 802.15.4-2011, 5.2.2.1.6 and 5.2.2.1.7). Header: short count bits 0-2, extended count
+-- 4-6; short addresses first.
+use Prim.Native.Nat.{ℕ, _+_, _*_, _%_}
+use mathlib.Core.Bool.{Bool, _||_}
+use mathlib.Core.List.{List, [], _∷_, _++_, flatMap}
+use lib.Dec.{ltb}
+use lib.ListN.{take}
+use Rattle.octets.specs.Bits.{bits}
+use Rattle.octets.specs.Little.{number, split}
+use Rattle.octets.specs.Order.{first}
+use Rattle.octets.specs.Outcome.{accepted, refused}
+use Rattle.octets.specs.Part.{ends}
+use Rattle.identifiers.specs.declared.ShortAddress.{ShortAddress}
+use Rattle.identifiers.specs.declared.ExtendedAddress.{ExtendedAddress}
+use Rattle.beacon_part.specs.declared.ValueWritten.{ValueWritten}
+use Rattle.beacon_part.specs.Value.{writeValue}
+use Rattle.pending.specs.declared.PendingAddress.{PendingAddress}
+use Rattle.pending.specs.declared.PendingRead.{PendingRead}
+use Rattle.pending.specs.Addresses.{emptyShort, emptyExtended, shortsIn, extendedsIn, shortBytes, extendedBytes}
+
+-- how many bytes the addresses take behind the header
+abbrev pub addressesLength : ℕ → ℕ → ℕ
+addressesLength shorts extendeds = 2 * shorts + 8 * extendeds
+
+abbrev pub pendingOf : ℕ → List ShortAddress → ℕ → List ExtendedAddress → PendingAddress
+pendingOf m shorts n extendeds =
+    record { «short_address_count» = m; «short_addresses» = shorts; «extended_address_count» = n; «extended_addresses» = extendeds }
+
+abbrev pub emptyPending : PendingAddress
+emptyPending =
+    pendingOf 0 (emptyShort ∷ emptyShort ∷ emptyShort ∷ emptyShort ∷ emptyShort ∷ emptyShort ∷ emptyShort ∷ [])
+    0 (emptyExtended ∷ emptyExtended ∷ emptyExtended ∷ emptyExtended ∷ emptyExtended ∷ emptyExtended ∷ emptyExtended ∷ [])
+
+-- the counts in the header at a place, and all that stands there
+abbrev pub shortCountIn : List ℕ → ℕ → ℕ
+shortCountIn s at = number s at 1 % 8
+
+abbrev pub extendedCountIn : List ℕ → ℕ → ℕ
+extendedCountIn s at = bits (number s at 1) 4 3
+
+unfoldable pub pendingIn : List ℕ → ℕ → PendingAddress
+pendingIn s at =
+    pendingOf (shortCountIn s at) (shortsIn s (at + 1) (shortCountIn s at))
+    (extendedCountIn s at) (extendedsIn s (at + 1 + 2 * shortCountIn s at) (extendedCountIn s at))
+
+abbrev pub pendingLengthIn : List ℕ → ℕ → ℕ
+pendingLengthIn s at = 1 + addressesLength (shortCountIn s at) (extendedCountIn s at)
+
+-- and what reading it there answers
+abbrev pub pendingRefused : PendingRead
+pendingRefused = record { outcome = refused 1; «pending_address» = emptyPending }
+
+unfoldable pub readPending : List ℕ → ℕ → PendingRead
+readPending s at =
+    first ((ends s at 1, pendingRefused) ∷ (ends s at (pendingLengthIn s at), pendingRefused) ∷ [])
+    (record { outcome = accepted (pendingLengthIn s at); «pending_address» = pendingIn s at })
+
+-- the header, bits 3 and 7 clear
+abbrev pub pendingHeader : PendingAddress → ℕ
+pendingHeader x = x .«short_address_count» + 16 * x .«extended_address_count»
+
+unfoldable pub pendingBytes : PendingAddress → List ℕ
+pendingBytes x =
+    split 1 (pendingHeader x)
+    ++ (flatMap shortBytes (take (x .«short_address_count») (x .«short_addresses»))
+    ++ flatMap extendedBytes (take (x .«extended_address_count») (x .«extended_addresses»)))
+
+abbrev pub pendingSize : PendingAddress → ℕ
+pendingSize x = 1 + addressesLength (x .«short_address_count») (x .«extended_address_count»)
+
+-- refusal 8: a count above 7
+unfoldable pub pendingTooLarge : PendingAddress → Bool
+pendingTooLarge x = ltb 7 (x .«short_address_count») || ltb 7 (x .«extended_address_count»)
+
+unfoldable pub writePending : PendingAddress → List ℕ → ℕ → ValueWritten
+writePending x out at = writeValue (pendingTooLarge x) out at (pendingSize x)
