@@ -5,19 +5,21 @@ use native.Mathlib.Nat.{pow-suc}
 use native.Mathlib.Omega.{arith}
 use mathlib.Core.Bool.{false}
 use mathlib.Core.List.{List, [], _∷_, _++_, flatMap}
-use mathlib.Core.Path.{_≡_, refl, sym}
+use mathlib.Core.Path.{_≡_, refl, ap}
 use borrow.Author.Tests.{ltb-false}
-use lib.ListN.{length, getD, take, drop, length-take, length-drop}
+use lib.ListN.{length, getD, take, drop, length-append, length-take, length-drop}
 use lib.Pow.{pow-mono}
 use Rattle.octets.specs.Little.{split}
+use Rattle.octets.proofs.Little.{split-length}
 use Rattle.beacon_part.specs.Seven.{some}
 use Rattle.beacon_part.proofs.Value.{neither}
-use Rattle.beacon_part.proofs.Seven.{rest-next}
+use Rattle.beacon_part.proofs.Seven.{rest-next, each-length}
 use Rattle.time_slot.specs.declared.Direction.{Direction}
 use Rattle.time_slot.specs.declared.Direction.the-variants.{Receive, Transmit}
 use Rattle.time_slot.specs.declared.GuaranteedTimeSlotDescriptor.{GuaranteedTimeSlotDescriptor}
 use Rattle.time_slot.specs.Direction.{directionBit}
 use Rattle.time_slot.specs.Descriptor.{descriptorBytes, descriptorTooLarge}
+use Rattle.time_slot.proofs.Descriptor.{descriptor-length}
 use Rattle.time_slots.specs.declared.GuaranteedTimeSlotInformation.{GuaranteedTimeSlotInformation}
 use Rattle.time_slots.specs.TimeSlots.{slotsLength, slotsDemand, directionsOf, listBytes, timeSlotsTooLarge}
 
@@ -70,6 +72,12 @@ list-some [] zero h k = absurd (k refl)
 list-some [] (suc n) h k = absurd (omega arith)
 list-some (x ∷ l) zero h k = absurd (k refl)
 list-some (x ∷ l) (suc n) h k = refl
+
+pub list-length : (l : List GuaranteedTimeSlotDescriptor) (n : ℕ) → n ≤ length l → length (listBytes (take n l)) ≡ slotsLength n
+list-length l zero h = rw (list-none l zero refl)
+list-length l (suc n) h =
+    rw (list-some l (suc n) h (λ e. absurd (omega arith)), length-append, split-length)
+    (ap (λ (k : ℕ). 1 + k) (each-length descriptorBytes 3 descriptor-length l (suc n) h))
 
 -- a count of at most seven, and no slot in use with a number too large
 pub fitting : (x : GuaranteedTimeSlotInformation) → timeSlotsTooLarge x ≡ false →

@@ -107,7 +107,7 @@ fn put_slots(slots: [GuaranteedTimeSlotDescriptor; 7], n: usize, out: &mut [u8],
 // Stores what follows the header: for any slot, the directions and the slots. Asks as above.
 fn put_list(slots: [GuaranteedTimeSlotDescriptor; 7], n: usize, out: &mut [u8], at: usize) -> usize
     requires { ⌜ (n ≤ 7) × ((some descriptorTooLarge (take n slots) ≡ false) × (slotsLength n ≤ length (now out) - at)) ⌝ }
-    ensures { λ r. ⌜ (r ≡ at + slotsLength n) × (now (out .exit) ≡ laid (now (out .entry)) at (listBytes (take n slots))) ⌝ }
+    ensures { λ r. ⌜ (r ≡ at + slotsLength n) × ((now (out .exit) ≡ laid (now (out .entry)) at (listBytes (take n slots))) × (length (listBytes (take n slots)) ≡ slotsLength n)) ⌝ }
 {
     if n == 0 {
         return at;
@@ -215,7 +215,7 @@ impl GuaranteedTimeSlotInformation {
     // Stores it and returns the place behind it. Asks that no number is too large, and for that room.
     pub fn put(self, out: &mut [u8], at: usize) -> usize
         requires { ⌜ (timeSlotsTooLarge self ≡ false) × (timeSlotsSize self ≤ length (now out) - at) ⌝ }
-        ensures { λ r. ⌜ (r ≡ at + timeSlotsSize self) × (now (out .exit) ≡ laid (now (out .entry)) at (timeSlotsBytes self)) ⌝ }
+        ensures { λ r. ⌜ (r ≡ at + timeSlotsSize self) × ((now (out .exit) ≡ laid (now (out .entry)) at (timeSlotsBytes self)) × (length (timeSlotsBytes self) ≡ timeSlotsSize self)) ⌝ }
     {
         let slots = self.slots;
         let header = self.header();

@@ -1,18 +1,23 @@
 -- `time_slots::put_list` meets its contract: the directions and the slots, two stores side by side, are one.
 -- Assumes nothing.
+use Prim.Native.Nat.{_≤_}
+use mathlib.Core.Path.{sym, ap, _∙_}
+use Rattle.octets.specs.Buffer.{laid}
+use Rattle.octets.proofs.Buffer.{laid-none}
+use Rattle.beacon_part.proofs.Buffer.{laid-two}
 use native.Mathlib.Omega.{arith}
-use mathlib.Core.Path.{sym}
 use borrow.Author.Needs.{needs}
+use lib.ListN.{length}
 use Rattle.octets.proofs.Little.{split-length}
-use Rattle.octets.proofs.Buffer.{laid-none, laid-join}
-use Rattle.time_slots.proofs.TimeSlots.{length-some, list-none, list-some}
+use Rattle.time_slots.proofs.TimeSlots.{length-some, list-none, list-some, list-length}
 use Rattle.time_slots.proofs.put_list.Statement.{statement}
 use Rattle.time_slots.proofs.put_list.Tie as tie
 
 none : tie.Need-returns
 none c =
     let a = c .before .before .args in
-    (rw (c .if1 .taken) (omega arith), sym (rw (list-none (a .slots) (a .n) (c .if1 .taken)) (laid-none _ _)))
+    let nothing = list-none (a .slots) (a .n) (c .if1 .taken) in
+    (rw (c .if1 .taken) (omega arith), (sym (rw nothing (laid-none _ _)), rw (nothing, c .if1 .taken)))
 
 room : tie.Need-put-requires
 room c κs =
@@ -32,15 +37,14 @@ some c =
     let first = second .before .before .before .before in
     let byte = first .before .before in
     let test = byte .before in
-    let a = test .before .before in (
+    let a = test .before .before in
+    let few : a .args .n ≤ length (a .args .slots) = omega (arith, a .good .0 .1 .0 .1, a .pre .0) in (
       omega (arith, second .put-slots .ensures .0, first .put .ensures .0, length-some (a .args .n) (test .if1 .left)),
-      simp (
-        second .put-slots .ensures .1,
-        first .put .ensures .1,
-        byte .directions .ensures,
-        list-some (a .args .slots) (a .args .n) (omega (arith, a .good .0 .1 .0 .1, a .pre .0)) (test .if1 .left),
-      )
-          (laid-join _ _ _ 1 _ _ (split-length 1 _) (first .put .ensures .0)),
+      (
+        laid-two _ _ 1 _ _ _ (split-length 1 _) (first .put .ensures .0) (first .put .ensures .1) (second .put-slots .ensures .1)
+        ∙ ap (laid (a .args .out .now) (a .args .at)) (rw (byte .directions .ensures) (sym (list-some (a .args .slots) (a .args .n) few (test .if1 .left)))),
+        list-length (a .args .slots) (a .args .n) few,
+      ),
     )
 
 pub put-list-spec : {M : Type 1} → statement M

@@ -2,8 +2,9 @@
 -- Assumes nothing.
 use native.Mathlib.Omega.{arith}
 use borrow.Author.Needs.{needs}
+use lib.ListN.{length-append}
 use Rattle.octets.proofs.Little.{split-length}
-use Rattle.octets.proofs.Buffer.{laid-join}
+use Rattle.beacon_part.proofs.Buffer.{laid-two}
 use Rattle.time_slots.specs.TimeSlots.{timeSlotsBytes}
 use Rattle.time_slots.proofs.TimeSlots.{fitting}
 use Rattle.time_slots.proofs.GuaranteedTimeSlotInformation.put.Statement.{statement}
@@ -25,8 +26,10 @@ returns c =
     let second = c .before .before in
     let first = second .before .before .before .before in (
       omega (arith, second .put-list .ensures .0, first .put .ensures .0),
-      simp (second .put-list .ensures .1, first .put .ensures .1, first .before .before .header .ensures)
-          (laid-join _ _ _ 1 _ _ (split-length 1 _) (first .put .ensures .0)),
+      (
+        laid-two _ _ 1 _ _ _ (split-length 1 _) (first .put .ensures .0) (rw (first .before .before .header .ensures) at (first .put .ensures .1)) (second .put-list .ensures .1 .0),
+        rw (length-append, split-length, second .put-list .ensures .1 .1),
+      ),
     )
 
 pub put-spec : {M : Type 1} → statement M

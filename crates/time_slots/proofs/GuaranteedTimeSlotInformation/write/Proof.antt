@@ -40,7 +40,7 @@ written c =
         enough (two .before .left .ensures) (rw (size .size .ensures .0) at (two .if2 .left)),
         size .size .ensures .0,
       ),
-      c .before .before .put .ensures .1,
+      c .before .before .put .ensures .1 .0,
     )
 
 pub write-spec : {M : Type 1} → statement M

@@ -1,0 +1,141 @@
+// A beacon's content: superframe specification, GTS information and pending addresses, side by side.
+ghost use mathlib.Core.Path.{_≡_};
+ghost use mathlib.Core.Bool.{false};
+ghost use Prim.Native.Nat.{_+_, _-_, _≤_};
+ghost use lib.ListN.{length};
+ghost use Rattle.octets.specs.Buffer.{laid, after};
+ghost use Rattle.beacon_part.specs.Value.{valueOutcome};
+ghost use Rattle.beacon.specs.Beacon.{emptyBeacon, beaconRefused, readBeacon, beaconBytes, beaconSize, beaconTooLarge, writeBeacon};
+use beacon_part::ValueWritten;
+use octets::Outcome;
+use octets::left;
+use pending::PendingAddress;
+use superframe::SuperframeSpecification;
+use time_slots::GuaranteedTimeSlotInformation;
+
+pub struct Beacon {
+    pub superframe_spec: SuperframeSpecification,
+    pub guaranteed_time_slot_info: GuaranteedTimeSlotInformation,
+    pub pending_address: PendingAddress,
+}
+
+// What reading a beacon answers; refused, with the empty one.
+pub struct BeaconRead {
+    pub outcome: Outcome,
+    pub beacon: Beacon,
+}
+
+impl BeaconRead {
+    fn refused() -> Self
+        ensures { λ r. ⌜ r ≡ beaconRefused ⌝ }
+    {
+        let beacon = Beacon::new();
+        BeaconRead {
+            outcome: Outcome {
+                number: 1,
+                length: 0,
+            },
+            beacon,
+        }
+    }
+}
+
+impl Beacon {
+    // Each part empty.
+    pub fn new() -> Self
+        ensures { λ r. ⌜ r ≡ emptyBeacon ⌝ }
+    {
+        let superframe_spec = SuperframeSpecification::new();
+        let guaranteed_time_slot_info = GuaranteedTimeSlotInformation::new();
+        let pending_address = PendingAddress::new();
+        Beacon {
+            superframe_spec,
+            guaranteed_time_slot_info,
+            pending_address,
+        }
+    }
+
+    pub fn read(s: &[u8], at: usize) -> BeaconRead
+        ensures { λ r. ⌜ r ≡ readBeacon (now (s .entry)) at ⌝ }
+    {
+        let superframe = SuperframeSpecification::read(s, at);
+        if superframe.outcome.number != 0 {
+            return BeaconRead::refused();
+        }
+        let slots = GuaranteedTimeSlotInformation::read(s, at + 2);
+        if slots.outcome.number != 0 {
+            return BeaconRead::refused();
+        }
+        let pending = PendingAddress::read(s, at + 2 + slots.outcome.length);
+        if pending.outcome.number != 0 {
+            return BeaconRead::refused();
+        }
+        let superframe_spec = superframe.superframe_spec;
+        let guaranteed_time_slot_info = slots.guaranteed_time_slot_info;
+        let pending_address = pending.pending_address;
+        BeaconRead {
+            outcome: Outcome {
+                number: 0,
+                length: 2 + slots.outcome.length + pending.outcome.length,
+            },
+            beacon: Beacon {
+                superframe_spec,
+                guaranteed_time_slot_info,
+                pending_address,
+            },
+        }
+    }
+
+    // A part with a number too large: refusal 8.
+    pub fn too_large(self) -> bool
+        ensures { λ r. ⌜ r ≡ beaconTooLarge self ⌝ }
+    {
+        let superframe = self.superframe_spec;
+        let slots = self.guaranteed_time_slot_info;
+        let pending = self.pending_address;
+        if superframe.too_large() {
+            return true;
+        }
+        if slots.too_large() {
+            return true;
+        }
+        pending.too_large()
+    }
+
+    // How many bytes it is written in. Asks that no number is too large.
+    pub fn size(self) -> usize
+        requires { ⌜ beaconTooLarge self ≡ false ⌝ }
+        ensures { λ r. ⌜ (r ≡ beaconSize self) × (r ≤ 96) ⌝ }
+    {
+        let slots = self.guaranteed_time_slot_info;
+        let pending = self.pending_address;
+        2 + slots.size() + pending.size()
+    }
+
+    // Stores it and returns the place behind it. Asks that no number is too large, and for that room.
+    pub fn put(self, out: &mut [u8], at: usize) -> usize
+        requires { ⌜ (beaconTooLarge self ≡ false) × (beaconSize self ≤ length (now out) - at) ⌝ }
+        ensures { λ r. ⌜ (r ≡ at + beaconSize self) × (now (out .exit) ≡ laid (now (out .entry)) at (beaconBytes self)) ⌝ }
+    {
+        let superframe = self.superframe_spec;
+        let slots = self.guaranteed_time_slot_info;
+        let pending = self.pending_address;
+        let next = superframe.put(out, at);
+        let next = slots.put(out, next);
+        pending.put(out, next)
+    }
+
+    pub fn write(self, out: &mut [u8], at: usize) -> ValueWritten
+        ensures { λ r. ⌜ (r ≡ writeBeacon self (now (out .entry)) at) × (now (out .exit) ≡ after (valueOutcome r) (now (out .entry)) at (beaconBytes self)) ⌝ }
+    {
+        if self.too_large() {
+            return ValueWritten::TooLarge;
+        }
+        let n = self.size();
+        if left(out, at) < n {
+            return ValueWritten::Full;
+        }
+        self.put(out, at);
+        ValueWritten::Written(n)
+    }
+}
