@@ -46,10 +46,10 @@ beaconRefused = record { outcome = refused 1; beacon = emptyBeacon }
 unfoldable pub readBeacon : List ℕ → ℕ → BeaconRead
 readBeacon s at =
     first (
-      (refuses (readSuperframe s at .outcome), beaconRefused) ∷
-      (refuses (readTimeSlots s (at + 2) .outcome), beaconRefused) ∷
-      (refuses (readPending s (pendingPlace s at) .outcome), beaconRefused) ∷
-      []
+    (refuses (readSuperframe s at .outcome), beaconRefused) ∷
+    (refuses (readTimeSlots s (at + 2) .outcome), beaconRefused) ∷
+    (refuses (readPending s (pendingPlace s at) .outcome), beaconRefused) ∷
+    []
     )
     (record { outcome = accepted (beaconLengthIn s at); beacon = beaconIn s at })
 

@@ -1,14 +1,30 @@
 -- Laws of pending addresses.
 -- Assumes nothing.
-use Prim.Native.Nat.{ℕ, _≤_}
+use Prim.Native.Nat.{ℕ, _-_, _≤_}
+use native.Mathlib.Omega.{arith}
 use mathlib.Core.Bool.{false}
+use mathlib.Core.List.{List}
 use mathlib.Core.Path.{_≡_}
 use borrow.Author.Tests.{ltb-false}
+use lib.ListN.{length}
+use Rattle.octets.specs.Outcome.{accepted}
+use Rattle.octets.specs.Part.{ends}
+use Rattle.octets.proofs.Order.{cases, holds?}
 use Rattle.beacon_part.proofs.Value.{neither}
 use Rattle.pending.specs.declared.PendingAddress.{PendingAddress}
-use Rattle.pending.specs.Pending.{pendingTooLarge}
+use Rattle.pending.specs.declared.PendingRead.{PendingRead}
+use Rattle.pending.specs.Pending.{pendingIn, pendingLengthIn, readPending, pendingTooLarge}
 
 -- each count is at most seven
 pub fitting : (x : PendingAddress) → pendingTooLarge x ≡ false → (x .«short_address_count» ≤ 7) × (x .«extended_address_count» ≤ 7)
 unfolding pendingTooLarge
 fitting x e = let both = neither _ _ e in (ltb-false 7 (x .«short_address_count») (both .0), ltb-false 7 (x .«extended_address_count») (both .1))
+
+-- what is read was there
+pub pending-read : (s : List ℕ) (at : ℕ) → readPending s at .outcome .number ≡ 0 →
+    (readPending s at ≡ record { outcome = accepted (pendingLengthIn s at); «pending_address» = pendingIn s at }) × (pendingLengthIn s at ≤ length s - at)
+unfolding readPending
+pending-read s at e =
+    cases (holds? (ends s at 1)) (λ t. absurd (omega (arith, simp t at e))) (λ t.
+    cases (holds? (ends s at (pendingLengthIn s at))) (λ u. absurd (omega (arith, simp (t, u) at e))) (λ u.
+    (simp (t, u), ltb-false _ _ u)))

@@ -1,15 +1,26 @@
 -- Laws of the superframe specification.
 -- Assumes nothing.
-use Prim.Native.Nat.{ℕ, _≤_}
-use mathlib.Core.Bool.{Bool, false, _||_}
+use Prim.Native.Nat.{ℕ, _-_, _≤_}
+use native.Mathlib.Omega.{arith}
+use mathlib.Core.Bool.{false}
+use mathlib.Core.List.{List}
 use mathlib.Core.Path.{_≡_}
 use borrow.Author.Tests.{ltb-false}
-use lib.Dec.{ltb}
+use lib.ListN.{length, length-append}
+use Rattle.octets.specs.Outcome.{accepted}
+use Rattle.octets.specs.Part.{ends}
+use Rattle.octets.proofs.Little.{split-length}
+use Rattle.octets.proofs.Order.{cases, holds?}
 use Rattle.beacon_part.proofs.Value.{neither}
 use Rattle.superframe.specs.declared.SuperframeSpecification.{SuperframeSpecification}
+use Rattle.superframe.specs.declared.SuperframeRead.{SuperframeRead}
 use Rattle.superframe.specs.Orders.{beaconOrderBits, beaconOrderTooLarge, superframeOrderBits, superframeOrderTooLarge}
-use Rattle.superframe.specs.Superframe.{superframeTooLarge}
+use Rattle.superframe.specs.Superframe.{superframeIn, readSuperframe, ordersByte, superframeBytes, superframeTooLarge}
 use Rattle.superframe.proofs.Orders.{beacon-order-small, superframe-order-small}
+
+pub superframe-length : (x : SuperframeSpecification) → length (superframeBytes x) ≡ 2
+unfolding superframeBytes
+superframe-length x = rw (length-append, split-length 1 (ordersByte x), split-length)
 
 -- each number fits its bits
 pub record Fitting (x : SuperframeSpecification) : Type 0 where
@@ -31,3 +42,10 @@ fitting x e =
       superframe-order-bits = superframe-order-small (x .«superframe_order») (two .1);
       slot = ltb-false 15 (x .«final_cap_slot») (one .1);
     }
+
+-- what is read was there
+pub superframe-read : (s : List ℕ) (at : ℕ) → readSuperframe s at .outcome .number ≡ 0 →
+    (readSuperframe s at ≡ record { outcome = accepted 2; «superframe_spec» = superframeIn s at }) × (2 ≤ length s - at)
+unfolding readSuperframe
+superframe-read s at e =
+    cases (holds? (ends s at 2)) (λ t. absurd (omega (arith, simp t at e))) (λ t. (simp t, ltb-false _ _ t))

@@ -12,7 +12,7 @@ use Rattle.time_slot.specs.Descriptor.{descriptorBytes, descriptorTooLar
 
 pub descriptor-length : (x : GuaranteedTimeSlotDescriptor) → length (descriptorBytes x) ≡ 3
 unfolding descriptorBytes
-descriptor-length x = rw (length-append, split-length, split-length)
+descriptor-length x = rw (length-append, split-length 2 (x .«short_address» .0), split-length)
 
 -- each number fits its bits
 pub fitting : (x : GuaranteedTimeSlotDescriptor) → descriptorTooLarge x ≡ false → (x .«starting_slot» ≤ 15) × (x .length ≤ 15)

@@ -10,6 +10,9 @@ use borrow.Author.Tests.{ltb-false}
 use lib.ListN.{length, getD, take, drop, length-append, length-take, length-drop}
 use lib.Pow.{pow-mono}
 use Rattle.octets.specs.Little.{split}
+use Rattle.octets.specs.Outcome.{accepted}
+use Rattle.octets.specs.Part.{ends}
+use Rattle.octets.proofs.Order.{cases, holds?}
 use Rattle.octets.proofs.Little.{split-length}
 use Rattle.beacon_part.specs.Seven.{some}
 use Rattle.beacon_part.proofs.Value.{neither}
@@ -21,7 +24,8 @@ use Rattle.time_slot.specs.Direction.{directionBit}
 use Rattle.time_slot.specs.Descriptor.{descriptorBytes, descriptorTooLarge}
 use Rattle.time_slot.proofs.Descriptor.{descriptor-length}
 use Rattle.time_slots.specs.declared.GuaranteedTimeSlotInformation.{GuaranteedTimeSlotInformation}
-use Rattle.time_slots.specs.TimeSlots.{slotsLength, slotsDemand, directionsOf, listBytes, timeSlotsTooLarge}
+use Rattle.time_slots.specs.declared.TimeSlotsRead.{TimeSlotsRead}
+use Rattle.time_slots.specs.TimeSlots.{slotsLength, slotsDemand, slotCountIn, timeSlotsIn, timeSlotsLengthIn, readTimeSlots, directionsOf, listBytes, timeSlotsTooLarge}
 
 -- how many bytes slots take and are asked for
 pub length-some : (n : ℕ) → (n ≡ 0 → ⊥) → slotsLength n ≡ 1 + 3 * n
@@ -84,3 +88,13 @@ pub fitting : (x : GuaranteedTimeSlotInformation) → timeSlotsTooLarge x ≡ fa
     (x .«slot_count» ≤ 7) × (some descriptorTooLarge (take (x .«slot_count») (x .slots)) ≡ false)
 unfolding timeSlotsTooLarge
 fitting x e = let both = neither _ _ e in (ltb-false 7 (x .«slot_count») (both .0), both .1)
+
+-- what is read was there, and what it wants to see behind
+pub time-slots-read : (s : List ℕ) (at : ℕ) → readTimeSlots s at .outcome .number ≡ 0 →
+    (readTimeSlots s at ≡ record { outcome = accepted (timeSlotsLengthIn s at); «guaranteed_time_slot_info» = timeSlotsIn s at })
+    × (1 + slotsDemand (slotCountIn s at) ≤ length s - at)
+unfolding readTimeSlots
+time-slots-read s at e =
+    cases (holds? (ends s at 1)) (λ t. absurd (omega (arith, simp t at e))) (λ t.
+    cases (holds? (ends s at (1 + slotsDemand (slotCountIn s at)))) (λ u. absurd (omega (arith, simp (t, u) at e))) (λ u.
+    (simp (t, u), ltb-false _ _ u)))

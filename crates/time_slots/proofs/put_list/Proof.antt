@@ -42,7 +42,7 @@ some c =
       omega (arith, second .put-slots .ensures .0, first .put .ensures .0, length-some (a .args .n) (test .if1 .left)),
       (
         laid-two _ _ 1 _ _ _ (split-length 1 _) (first .put .ensures .0) (first .put .ensures .1) (second .put-slots .ensures .1)
-        ∙ ap (laid (a .args .out .now) (a .args .at)) (rw (byte .directions .ensures) (sym (list-some (a .args .slots) (a .args .n) few (test .if1 .left)))),
+            ∙ ap (laid (a .args .out .now) (a .args .at)) (rw (byte .directions .ensures) (sym (list-some (a .args .slots) (a .args .n) few (test .if1 .left)))),
         list-length (a .args .slots) (a .args .n) few,
       ),
     )
