@@ -1,0 +1,45 @@
+-- Demand 3 of a part follows from a few laws of it: what was read fits and is written as it stood, and what was written is read back.
+-- Assumes nothing.
+use Prim.Native.Nat.{ℕ, _-_, _≤_}
+use mathlib.Core.Bool.{false}
+use mathlib.Core.List.{List, _++_}
+use mathlib.Core.Path.{_≡_, sym, _∙_}
+use borrow.Author.Tests.{le-ltb}
+use lib.ListN.{length}
+use Rattle.octets.specs.Little.{Bytes}
+use Rattle.octets.proofs.Little.{bytes-append}
+use Rattle.beacon_facts.specs.Format.{Format, Rewritten, Returned}
+
+-- what is known of a value that was read
+pub record Taken {X R : Type 0} (F : Format X R) (s : List ℕ) (at : ℕ) (x : X) (n : ℕ) : Type 0 where
+  pub typed : F .Typed x
+  pub fits : F .tooLarge x ≡ false
+  pub same : F .reset x ≡ x
+  pub size : F .size x ≡ n
+  pub within : n ≤ length s - at
+  pub written : F .bytes x ≡ F .cleared s at
+  pub behind : (t : List ℕ) → F .read (s ++ t) at ≡ F .accepts x n
+
+pub record Laws {X R : Type 0} (F : Format X R) : Type 0 where
+  pub taken : (s : List ℕ) (at : ℕ) (x : X) (n : ℕ) → Bytes s → F .read s at ≡ F .accepts x n → Taken F s at x n
+  pub bytes : (x : X) → Bytes (F .bytes x)
+  pub returned : (x : X) → F .Typed x → F .tooLarge x ≡ false → Returned F x
+
+module _ {X R : Type 0} (F : Format X R) (laws : Laws F) where
+  again : (s : List ℕ) (at : ℕ) (x : X) (n : ℕ) → Taken F s at x n → (p t : List ℕ) → F .spare x ≤ length t →
+      F .read (p ++ (F .bytes x ++ t)) (length p) ≡ F .accepts x n
+  again s at x n k p t h = rw (k .same, k .size) at (laws .returned x (k .typed) (k .fits) .back p t h)
+
+  pub rewritten : (s : List ℕ) (at : ℕ) (x : X) (n : ℕ) → Bytes s → F .read s at ≡ F .accepts x n → Rewritten F s at x n
+  rewritten s at x n b e =
+      let k = laws .taken s at x n b e in
+      record {
+        within = k .within;
+        accepted = λ out to room. rw (k .fits, k .size, le-ltb (length out - to) n room);
+        long = laws .returned x (k .typed) (k .fits) .long ∙ k .size;
+        written = k .written;
+        again = again s at x n k;
+        settled = λ p t bp bt h.
+            sym (laws .taken (p ++ (F .bytes x ++ t)) (length p) x n (bytes-append p (F .bytes x ++ t) bp (bytes-append (F .bytes x) t (laws .bytes x) bt)) (again s at x n k p t h) .written);
+        behind = k .behind;
+      }

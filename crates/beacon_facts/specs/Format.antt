@@ -1,0 +1,47 @@
+-- Demand 3 for any part that can be read and written: what is promised of a value that was read, and of a value that is written.
+use Prim.Native.Nat.{ℕ, _-_, _≤_}
+use mathlib.Core.Bool.{Bool, false}
+use mathlib.Core.List.{List, _++_}
+use mathlib.Core.Path.{_≡_}
+use lib.ListN.{length}
+use Rattle.octets.specs.Little.{Bytes}
+use Rattle.beacon_part.specs.declared.ValueWritten.the-variants.{Written}
+use Rattle.beacon_part.specs.Value.{writeValue}
+
+-- the definitions of one part: values X, reader's answers R
+pub record Format (X R : Type 0) : Type 1 where
+  -- what reading at a place answers, and the answer that accepts a value and a length
+  pub read : List ℕ → ℕ → R
+  pub accepts : X → ℕ → R
+  -- refusal 8, the bytes and how many they are
+  pub tooLarge : X → Bool
+  pub bytes : X → List ℕ
+  pub size : X → ℕ
+  -- how many bytes more than it takes the reader wants to see behind them
+  pub spare : X → ℕ
+  -- the bytes that stand at a place, with the bits cleared that are not read
+  pub cleared : List ℕ → ℕ → List ℕ
+  -- a value as it is read back, its unused places empty
+  pub reset : X → X
+  -- what holds of every value of the Rattle type: numbers within their width, seven places
+  pub Typed : X → Type 0
+
+-- from the bytes: at a place of s, x was read and n bytes were taken
+pub record Rewritten {X R : Type 0} (F : Format X R) (s : List ℕ) (at : ℕ) (x : X) (n : ℕ) : Type 0 where
+  -- never more than the input
+  pub within : n ≤ length s - at
+  -- x is written wherever there is room: as many bytes, those that were read but for the bits cleared
+  pub accepted : (out : List ℕ) (to : ℕ) → n ≤ length out - to → writeValue (F .tooLarge x) out to (F .size x) ≡ Written n
+  pub long : length (F .bytes x) ≡ n
+  pub written : F .bytes x ≡ F .cleared s at
+  -- read again, whatever stands before and behind, it is x and as long
+  pub again : (p t : List ℕ) → F .spare x ≤ length t → F .read (p ++ (F .bytes x ++ t)) (length p) ≡ F .accepts x n
+  -- and a second writing changes nothing
+  pub settled : (p t : List ℕ) → Bytes p → Bytes t → F .spare x ≤ length t → F .cleared (p ++ (F .bytes x ++ t)) (length p) ≡ F .bytes x
+  -- bytes behind alter nothing
+  pub behind : (t : List ℕ) → F .read (s ++ t) at ≡ F .accepts x n
+
+-- from the record: x is free of refusal 8
+pub record Returned {X R : Type 0} (F : Format X R) (x : X) : Type 0 where
+  pub long : length (F .bytes x) ≡ F .size x
+  pub back : (p t : List ℕ) → F .spare x ≤ length t → F .read (p ++ (F .bytes x ++ t)) (length p) ≡ F .accepts (F .reset x) (F .size x)

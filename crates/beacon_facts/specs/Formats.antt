@@ -1,0 +1,125 @@
+-- The beacon and each of its parts as formats.
+use Prim.Native.Nat.{ℕ, _+_, _-_, _^_, _<_}
+use mathlib.Core.List.{List}
+use mathlib.Core.Path.{_≡_}
+use lib.ListN.{length, getD}
+use Rattle.octets.specs.Outcome.{accepted}
+use Rattle.identifiers.specs.declared.ShortAddress.{ShortAddress}
+use Rattle.identifiers.specs.declared.ExtendedAddress.{ExtendedAddress}
+use Rattle.beacon_part.specs.Seven.{reset}
+use Rattle.superframe.specs.declared.SuperframeSpecification.{SuperframeSpecification}
+use Rattle.superframe.specs.declared.SuperframeRead.{SuperframeRead}
+use Rattle.superframe.specs.Superframe.{readSuperframe, superframeBytes, superframeTooLarge}
+use Rattle.time_slot.specs.declared.Direction.the-variants.{Receive}
+use Rattle.time_slot.specs.declared.GuaranteedTimeSlotDescriptor.{GuaranteedTimeSlotDescriptor}
+use Rattle.time_slot.specs.declared.DescriptorRead.{DescriptorRead}
+use Rattle.time_slot.specs.Descriptor.{descriptorOf, emptyDescriptor, readDescriptor, descriptorBytes, descriptorTooLarge}
+use Rattle.time_slots.specs.declared.GuaranteedTimeSlotInformation.{GuaranteedTimeSlotInformation}
+use Rattle.time_slots.specs.declared.TimeSlotsRead.{TimeSlotsRead}
+use Rattle.time_slots.specs.TimeSlots.{slotsLength, slotsDemand, timeSlotsOf, readTimeSlots, timeSlotsBytes, timeSlotsSize, timeSlotsTooLarge}
+use Rattle.pending.specs.declared.PendingAddress.{PendingAddress}
+use Rattle.pending.specs.declared.PendingRead.{PendingRead}
+use Rattle.pending.specs.Addresses.{emptyShort, emptyExtended}
+use Rattle.pending.specs.Pending.{pendingOf, readPending, pendingBytes, pendingSize, pendingTooLarge}
+use Rattle.beacon.specs.declared.Beacon.{Beacon}
+use Rattle.beacon.specs.declared.BeaconRead.{BeaconRead}
+use Rattle.beacon.specs.Beacon.{beaconOf, readBeacon, beaconBytes, beaconSize, beaconTooLarge}
+use Rattle.beacon_facts.specs.Cleared.{superframeCleared, descriptorCleared, timeSlotsCleared, pendingCleared, beaconCleared}
+use Rattle.beacon_facts.specs.Format.{Format}
+
+abbrev pub superframe : Format SuperframeSpecification SuperframeRead
+superframe =
+    record {
+      read = readSuperframe;
+      accepts = λ x n. record { outcome = accepted n; «superframe_spec» = x };
+      tooLarge = superframeTooLarge;
+      bytes = superframeBytes;
+      size = λ x. 2;
+      spare = λ x. 0;
+      cleared = superframeCleared;
+      reset = λ x. x;
+      Typed = λ x. Unit;
+    }
+
+-- a descriptor read alone is Receive
+abbrev pub descriptorReset : GuaranteedTimeSlotDescriptor → GuaranteedTimeSlotDescriptor
+descriptorReset x = descriptorOf (x .«short_address») (x .«starting_slot») (x .length) Receive
+
+abbrev pub DescriptorTyped : GuaranteedTimeSlotDescriptor → Type 0
+DescriptorTyped x = x .«short_address» .0 < 256 ^ 2
+
+abbrev pub descriptor : Format GuaranteedTimeSlotDescriptor DescriptorRead
+descriptor =
+    record {
+      read = readDescriptor;
+      accepts = λ x n. record { outcome = accepted n; slot = x };
+      tooLarge = descriptorTooLarge;
+      bytes = descriptorBytes;
+      size = λ x. 3;
+      spare = λ x. 0;
+      cleared = descriptorCleared;
+      reset = descriptorReset;
+      Typed = DescriptorTyped;
+    }
+
+-- seven entries, each as its type has it
+abbrev pub Seven : {A : Type 0} → (A → Type 0) → A → List A → Type 0
+Seven Typed empty l = (length l ≡ 7) × ((k : ℕ) → k < 7 → Typed (getD l k empty))
+
+abbrev pub timeSlotsReset : GuaranteedTimeSlotInformation → GuaranteedTimeSlotInformation
+timeSlotsReset x = timeSlotsOf (x .permit) (x .«slot_count») (reset (x .slots) emptyDescriptor (x .«slot_count»))
+
+abbrev pub TimeSlotsTyped : GuaranteedTimeSlotInformation → Type 0
+TimeSlotsTyped x = Seven DescriptorTyped emptyDescriptor (x .slots)
+
+abbrev pub timeSlots : Format GuaranteedTimeSlotInformation TimeSlotsRead
+timeSlots =
+    record {
+      read = readTimeSlots;
+      accepts = λ x n. record { outcome = accepted n; «guaranteed_time_slot_info» = x };
+      tooLarge = timeSlotsTooLarge;
+      bytes = timeSlotsBytes;
+      size = timeSlotsSize;
+      spare = λ x. slotsDemand (x .«slot_count») - slotsLength (x .«slot_count»);
+      cleared = timeSlotsCleared;
+      reset = timeSlotsReset;
+      Typed = TimeSlotsTyped;
+    }
+
+abbrev pub pendingReset : PendingAddress → PendingAddress
+pendingReset x =
+    pendingOf (x .«short_address_count») (reset (x .«short_addresses») emptyShort (x .«short_address_count»))
+    (x .«extended_address_count») (reset (x .«extended_addresses») emptyExtended (x .«extended_address_count»))
+
+abbrev pub PendingTyped : PendingAddress → Type 0
+PendingTyped x =
+    Seven (λ (a : ShortAddress). a .0 < 256 ^ 2) emptyShort (x .«short_addresses»)
+    × Seven (λ (a : ExtendedAddress). a .0 < 256 ^ 8) emptyExtended (x .«extended_addresses»)
+
+abbrev pub pending : Format PendingAddress PendingRead
+pending =
+    record {
+      read = readPending;
+      accepts = λ x n. record { outcome = accepted n; «pending_address» = x };
+      tooLarge = pendingTooLarge;
+      bytes = pendingBytes;
+      size = pendingSize;
+      spare = λ x. 0;
+      cleared = pendingCleared;
+      reset = pendingReset;
+      Typed = PendingTyped;
+    }
+
+abbrev pub beacon : Format Beacon BeaconRead
+beacon =
+    record {
+      read = readBeacon;
+      accepts = λ x n. record { outcome = accepted n; beacon = x };
+      tooLarge = beaconTooLarge;
+      bytes = beaconBytes;
+      size = beaconSize;
+      spare = λ x. 0;
+      cleared = beaconCleared;
+      reset = λ x. beaconOf (x .«superframe_spec») (timeSlotsReset (x .«guaranteed_time_slot_info»)) (pendingReset (x .«pending_address»));
+      Typed = λ x. TimeSlotsTyped (x .«guaranteed_time_slot_info») × PendingTyped (x .«pending_address»);
+    }

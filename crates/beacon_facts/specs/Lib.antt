@@ -1,0 +1,3 @@
+pub mod Cleared
+pub mod Format
+pub mod Formats

@@ -1,0 +1,1 @@
+// Theorems over the definitions of a beacon and its parts: no code.
