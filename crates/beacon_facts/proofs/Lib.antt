@@ -5,3 +5,4 @@ pub mod Superframe
 pub mod Descriptor
 pub mod TimeSlots
 pub mod Pending
+pub mod Beacon
