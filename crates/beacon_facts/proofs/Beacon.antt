@@ -54,7 +54,7 @@ module _ (s : List ℕ) (at : ℕ) where
     pending = omega arith;
   }
 
-  all-found : Found s at → beaconLengthIn s at ≤ length s - at
+  pub all-found : Found s at → beaconLengthIn s at ≤ length s - at
   unfolding beaconLengthIn
   all-found h = omega (arith, h .superframe, h .slots, h .pending, demand-enough (slotCountIn s (at + 2)))
 

@@ -6,3 +6,6 @@ pub mod Descriptor
 pub mod TimeSlots
 pub mod Pending
 pub mod Beacon
+pub mod Trip
+pub mod Order
+pub mod Rows

@@ -37,6 +37,11 @@ use Rattle.beacon_facts.proofs.Places.{split-one, byte-small, past, pas
 use Rattle.beacon_facts.proofs.Each.{span, in-use, span-fails, entries-again, entry-place, entry-at, each-bytes, seven-reset, seven-all}
 use Rattle.beacon_facts.proofs.Descriptor.{descriptor-fits, descriptor-again, descriptor-more, descriptor-typed, descriptor-back, descriptor-bytes}
 
+-- seven slots take 22 bytes
+pub few-length : (n : ℕ) → n ≤ 7 → slotsLength n ≤ 22
+few-length zero h = omega arith
+few-length (suc n) h = omega arith
+
 -- a direction to a bit and back
 direction-back : (d : Direction) → directionOf (directionBit d) ≡ d
 direction-back Receive = refl

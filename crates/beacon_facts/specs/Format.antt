@@ -45,3 +45,10 @@ pub record Rewritten {X R : Type 0} (F : Format X R) (s : List ℕ) (at : ℕ) (
 pub record Returned {X R : Type 0} (F : Format X R) (x : X) : Type 0 where
   pub long : length (F .bytes x) ≡ F .size x
   pub back : (p t : List ℕ) → F .spare x ≤ length t → F .read (p ++ (F .bytes x ++ t)) (length p) ≡ F .accepts (F .reset x) (F .size x)
+
+-- demand 3, from the bytes and from the record
+abbrev pub FromBytes : {X R : Type 0} → Format X R → Type 0
+FromBytes {X} F = (s : List ℕ) (at : ℕ) (x : X) (n : ℕ) → Bytes s → F .read s at ≡ F .accepts x n → Rewritten F s at x n
+
+abbrev pub FromRecord : {X R : Type 0} → Format X R → Type 0
+FromRecord {X} F = (x : X) → F .Typed x → F .tooLarge x ≡ false → Returned F x

@@ -1,3 +1,5 @@
 pub mod Cleared
 pub mod Format
 pub mod Formats
+pub mod Order
+pub mod Rows

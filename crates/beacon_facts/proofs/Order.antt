@@ -1,0 +1,73 @@
+-- Each refusal is given exactly when it is the first in its order: what is said of an answer is said beside each test.
+-- Assumes nothing.
+use Prim.Native.Nat.{_+_}
+use mathlib.Core.List.{[], _∷_}
+use mathlib.Core.Path.{ap, _∙_}
+use Rattle.octets.specs.Part.{ends}
+use Rattle.octets.proofs.Order.{first-map}
+use Rattle.beacon_part.specs.declared.ValueWritten.{ValueWritten}
+use Rattle.beacon_part.specs.declared.ValueWritten.the-variants.{Written, TooLarge, Full}
+use Rattle.beacon_part.specs.Value.{writeValue, valueOutcome}
+use Rattle.superframe.specs.declared.SuperframeRead.{SuperframeRead}
+use Rattle.superframe.specs.Superframe.{readSuperframe, writeSuperframe}
+use Rattle.time_slot.specs.declared.DescriptorRead.{DescriptorRead}
+use Rattle.time_slot.specs.Descriptor.{readDescriptor, writeDescriptor}
+use Rattle.time_slots.specs.declared.TimeSlotsRead.{TimeSlotsRead}
+use Rattle.time_slots.specs.TimeSlots.{slotsDemand, slotCountIn, timeSlotsRefused, readTimeSlots, writeTimeSlots}
+use Rattle.pending.specs.declared.PendingRead.{PendingRead}
+use Rattle.pending.specs.Pending.{pendingLengthIn, pendingRefused, readPending, writePending}
+use Rattle.beacon.specs.declared.BeaconRead.{BeaconRead}
+use Rattle.beacon.specs.Beacon.{beaconLengthIn, beaconRefused, readBeacon, writeBeacon}
+use Rattle.beacon_facts.specs.Format.{Format}
+use Rattle.beacon_facts.specs.Formats.{superframe, descriptor, timeSlots, pending, beacon}
+use Rattle.beacon_facts.specs.Order.{superframeTests, descriptorTests, timeSlotsTests, pendingTests, beaconTests, Reading, Writing}
+use Rattle.beacon_facts.proofs.Beacon.{whole}
+
+pub superframe-reading : Reading (λ s at. readSuperframe s at .outcome) superframeTests
+unfolding readSuperframe
+superframe-reading s at = first-map (λ (r : SuperframeRead). r .outcome .number) ((ends s at 2, _) ∷ []) _
+
+pub descriptor-reading : Reading (λ s at. readDescriptor s at .outcome) descriptorTests
+unfolding readDescriptor
+descriptor-reading s at = first-map (λ (r : DescriptorRead). r .outcome .number) ((ends s at 3, _) ∷ []) _
+
+pub time-slots-reading : Reading (λ s at. readTimeSlots s at .outcome) timeSlotsTests
+unfolding readTimeSlots
+time-slots-reading s at =
+    first-map (λ (r : TimeSlotsRead). r .outcome .number)
+    ((ends s at 1, timeSlotsRefused) ∷ (ends s at (1 + slotsDemand (slotCountIn s at)), timeSlotsRefused) ∷ []) _
+
+pub pending-reading : Reading (λ s at. readPending s at .outcome) pendingTests
+unfolding readPending
+pending-reading s at =
+    first-map (λ (r : PendingRead). r .outcome .number) ((ends s at 1, pendingRefused) ∷ (ends s at (pendingLengthIn s at), pendingRefused) ∷ []) _
+
+pub beacon-reading : Reading (λ s at. readBeacon s at .outcome) beaconTests
+beacon-reading s at =
+    ap (λ (r : BeaconRead). r .outcome .number) (whole s at)
+    ∙ first-map (λ (r : BeaconRead). r .outcome .number) ((ends s at (beaconLengthIn s at), beaconRefused) ∷ []) _
+
+-- one definition serves all writers
+any-writing : {X R : Type 0} (F : Format X R) → Writing F (λ x out at. writeValue (F .tooLarge x) out at (F .size x))
+any-writing F x out at =
+    first-map (λ (r : ValueWritten). valueOutcome r .number) ((F .tooLarge x, TooLarge) ∷ (ends out at (F .size x), Full) ∷ []) (Written (F .size x))
+
+pub superframe-writing : Writing superframe writeSuperframe
+unfolding writeSuperframe
+superframe-writing = any-writing superframe
+
+pub descriptor-writing : Writing descriptor writeDescriptor
+unfolding writeDescriptor
+descriptor-writing = any-writing descriptor
+
+pub time-slots-writing : Writing timeSlots writeTimeSlots
+unfolding writeTimeSlots
+time-slots-writing = any-writing timeSlots
+
+pub pending-writing : Writing pending writePending
+unfolding writePending
+pending-writing = any-writing pending
+
+pub beacon-writing : Writing beacon writeBeacon
+unfolding writeBeacon
+beacon-writing = any-writing beacon
