@@ -5,13 +5,16 @@ ghost use Prim.Native.Nat.{_+_, _-_, _≤_};
 ghost use lib.ListN.{length};
 ghost use Rattle.octets.specs.Buffer.{laid, after};
 ghost use Rattle.beacon_part.specs.Value.{valueOutcome};
-ghost use Rattle.beacon.specs.Beacon.{emptyBeacon, beaconRefused, readBeacon, beaconBytes, beaconSize, beaconTooLarge, writeBeacon};
+ghost use Rattle.beacon.specs.Beacon.{beaconOf, emptyBeacon, beaconRefused, readBeacon, beaconBytes, beaconSize, beaconTooLarge, writeBeacon};
 use beacon_part::ValueWritten;
 use octets::Outcome;
 use octets::left;
 use pending::PendingAddress;
+use pending::PendingRead;
+use superframe::SuperframeRead;
 use superframe::SuperframeSpecification;
 use time_slots::GuaranteedTimeSlotInformation;
+use time_slots::TimeSlotsRead;
 
 pub struct Beacon {
     pub superframe_spec: SuperframeSpecification,
@@ -23,6 +26,20 @@ pub struct Beacon {
 pub struct BeaconRead {
     pub outcome: Outcome,
     pub beacon: Beacon,
+}
+
+// The beacon of the parts that were read.
+fn joined(superframe: SuperframeRead, slots: TimeSlotsRead, pending: PendingRead) -> Beacon
+    ensures { λ r. ⌜ r ≡ beaconOf (superframe .«superframe_spec») (slots .«guaranteed_time_slot_info») (pending .«pending_address») ⌝ }
+{
+    let superframe_spec = superframe.superframe_spec;
+    let guaranteed_time_slot_info = slots.guaranteed_time_slot_info;
+    let pending_address = pending.pending_address;
+    Beacon {
+        superframe_spec,
+        guaranteed_time_slot_info,
+        pending_address,
+    }
 }
 
 impl BeaconRead {
@@ -70,24 +87,16 @@ impl Beacon {
         if pending.outcome.number != 0 {
             return BeaconRead::refused();
         }
-        let superframe_spec = superframe.superframe_spec;
-        let guaranteed_time_slot_info = slots.guaranteed_time_slot_info;
-        let pending_address = pending.pending_address;
+        let length = 2 + slots.outcome.length + pending.outcome.length;
+        let beacon = joined(superframe, slots, pending);
         BeaconRead {
-            outcome: Outcome {
-                number: 0,
-                length: 2 + slots.outcome.length + pending.outcome.length,
-            },
-            beacon: Beacon {
-                superframe_spec,
-                guaranteed_time_slot_info,
-                pending_address,
-            },
+            outcome: Outcome { number: 0, length },
+            beacon,
         }
     }
 
     // A part with a number too large: refusal 8.
-    pub fn too_large(self) -> bool
+    fn too_large(self) -> bool
         ensures { λ r. ⌜ r ≡ beaconTooLarge self ⌝ }
     {
         let superframe = self.superframe_spec;
@@ -103,7 +112,7 @@ impl Beacon {
     }
 
     // How many bytes it is written in. Asks that no number is too large.
-    pub fn size(self) -> usize
+    fn size(self) -> usize
         requires { ⌜ beaconTooLarge self ≡ false ⌝ }
         ensures { λ r. ⌜ (r ≡ beaconSize self) × (r ≤ 96) ⌝ }
     {
@@ -113,7 +122,7 @@ impl Beacon {
     }
 
     // Stores it and returns the place behind it. Asks that no number is too large, and for that room.
-    pub fn put(self, out: &mut [u8], at: usize) -> usize
+    fn put(self, out: &mut [u8], at: usize) -> usize
         requires { ⌜ (beaconTooLarge self ≡ false) × (beaconSize self ≤ length (now out) - at) ⌝ }
         ensures { λ r. ⌜ (r ≡ at + beaconSize self) × (now (out .exit) ≡ laid (now (out .entry)) at (beaconBytes self)) ⌝ }
     {

@@ -43,7 +43,7 @@ impl BeaconOrder {
     }
 
     // A numbered order above 14: refusal 8.
-    pub fn too_large(self) -> bool
+    fn too_large(self) -> bool
         ensures { λ r. ⌜ r ≡ beaconOrderTooLarge self ⌝ }
     {
         match self {
@@ -81,7 +81,7 @@ impl SuperframeOrder {
     }
 
     // A numbered order above 14: refusal 8.
-    pub fn too_large(self) -> bool
+    fn too_large(self) -> bool
         ensures { λ r. ⌜ r ≡ superframeOrderTooLarge self ⌝ }
     {
         match self {

@@ -83,16 +83,15 @@ no-pending c =
       c .refused3 .ensures,
     )
 
-slots-end : tie.Need-add-t11
+slots-end : tie.Need-add-length
 slots-end c =
-    let three = c .before .before .before .before in
-    let two = three .before .before .before .before in
+    let two = c .before .before .before .before .before in
     let a = two .before .before .before .before .before .before .before in
     rw (slots two .0) (omega (arith, a .good .0 .0, slots two .2))
 
-pending-end : tie.Need-add-t10
+pending-end : tie.Need-add-length-2
 pending-end c =
-    let three = c .before .before .before .before .before in
+    let three = c .before .before in
     let two = three .before .before .before .before in
     let a = two .before .before .before .before .before .before .before in
     rw (slots two .0, pending three .0) (omega (arith, a .good .0 .0, slots two .2, pending three .2))
@@ -100,13 +99,13 @@ pending-end c =
 all : tie.Need-returns-4
 unfolding readBeacon beaconIn beaconLengthIn
 all c =
-    let three = c .before .before .before .before .before in
+    let three = c .before .before .before in
     let two = three .before .before .before .before in
     let one = two .before .before .before in
-    simp (superframe one .0, superframe one .1, slots two .0, slots two .1, pending three .0, pending three .1)
+    simp (c .joined .ensures, superframe one .0, superframe one .1, slots two .0, slots two .1, pending three .0, pending three .1)
 
 pub read-spec : {M : Type 1} → statement M
 read-spec =
     tie.close
     (tie.spec (λ c κs. search needs) (λ c κs. search needs) no-superframe second-place (λ c κs. search needs) (λ c κs. search needs) no-slots second-place-again third-place
-    (λ c κs. search needs) (λ c κs. search needs) no-pending slots-end pending-end all)
+    (λ c κs. search needs) (λ c κs. search needs) no-pending slots-end pending-end (λ c κs. search needs) all)
