@@ -22,7 +22,7 @@ use Rattle.address.specs.Layout.{modeLength}
 use Rattle.address.proofs.Laws.{address-again, address-mode}
 use Rattle.security.specs.declared.OptionalSecurityHeader.{OptionalSecurityHeader}
 use Rattle.security.specs.declared.OptionalSecurityHeader.the-variants.{Absent, Present}
-use Rattle.security.specs.Optional.{isPresent, optionalLength, optionalBytes, counterOf}
+use Rattle.security.specs.Optional.{isPresent, optionalLength, optionalBytes, counterOf, counterRead}
 use Rattle.security.specs.Security.{lengthIn}
 use Rattle.security.proofs.Laws.{security-length}
 use Rattle.security.proofs.RoundTrip.{round-trip}
@@ -32,7 +32,7 @@ use Rattle.header.specs.Read.{destinationEnd, sourceEnd, destinationIn, sourceI
 use Rattle.header.specs.Write.{writtenControl, fixedBytes, addressesBytes, headerBytes}
 use Rattle.header.proofs.Apart.{Stages, headerIn}
 use Rattle.header.proofs.Bounds.{Secured, security-found}
-use Rattle.header_facts.specs.RoundTrip.{counterRead, rewritten, clearControl, cleared}
+use Rattle.header_facts.specs.RoundTrip.{rewritten, clearControl, cleared}
 
 -- the two bytes of a frame control without its bits 7, 8 and 9
 low-byte : (a b x y : ℕ) → a < 256 → x * 128 ≤ a → y ≤ b → ((a + 256 * b) - (x + 2 * y) * 128) % 256 ≡ a - x * 128

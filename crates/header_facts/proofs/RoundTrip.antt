@@ -24,7 +24,7 @@ use Rattle.address.specs.Layout.{addressIn}
 use Rattle.address.proofs.Laws.{address-more, address-small, address-mode, address-shares, shared-small}
 use Rattle.security.specs.declared.OptionalSecurityHeader.{OptionalSecurityHeader}
 use Rattle.security.specs.declared.OptionalSecurityHeader.the-variants.{Absent, Present}
-use Rattle.security.specs.Optional.{isPresent, levelTooLarge, missing, counterOf}
+use Rattle.security.specs.Optional.{isPresent, levelTooLarge, missing, counterOf, counterRead}
 use Rattle.security.specs.Security.{lengthIn, securityIn, levelOf}
 use Rattle.security.proofs.Laws.{security-small, counter-small, security-told}
 use Rattle.security.proofs.RoundTrip.{accepted-whole}
@@ -39,7 +39,7 @@ use Rattle.header.specs.Write.{bothPresent, lacksAddress, writeHeader, headerBy
 use Rattle.header.proofs.Laws.{header-length}
 use Rattle.header.proofs.Apart.{Stages, headerIn, together, apart}
 use Rattle.header.proofs.Bounds.{Secured, security-found}
-use Rattle.header_facts.specs.RoundTrip.{quiet, lost, counterRead, rewritten, isAbsent, sourceless, RoundTrip, toldPart, SmallPart, Small}
+use Rattle.header_facts.specs.RoundTrip.{quiet, lost, rewritten, isAbsent, sourceless, RoundTrip, toldPart, SmallPart, Small}
 use Rattle.header_facts.proofs.Again.{length-again, header-again}
 use Rattle.header_facts.proofs.Back.{header-back}
 

@@ -11,11 +11,9 @@ use Rattle.address.specs.declared.OptionalAddress.{OptionalAddress}
 use Rattle.address.specs.declared.OptionalAddress.the-variants as Address
 use Rattle.address.specs.Address.{sharedPan}
 use Rattle.address.specs.Layout.{sharing, SmallAddress}
-use Rattle.security.specs.declared.OptionalCounter.{OptionalCounter}
-use Rattle.security.specs.declared.OptionalCounter.the-variants as Counter
 use Rattle.security.specs.declared.OptionalSecurityHeader.{OptionalSecurityHeader}
 use Rattle.security.specs.declared.OptionalSecurityHeader.the-variants.{Absent, Present}
-use Rattle.security.specs.Optional.{counterOf}
+use Rattle.security.specs.Optional.{counterOf, counterRead}
 use Rattle.security.specs.RoundTrip.{told}
 use Rattle.header.specs.declared.Header.{Header}
 use Rattle.header.specs.declared.HeaderRead.the-variants.{Read}
@@ -44,12 +42,7 @@ quiet h source security =
 abbrev pub lost : Header → Header
 lost h = quiet h (h .source) (h .«auxiliary_security_header»)
 
--- the counter that was read
-abbrev pub counterRead : OptionalSecurityHeader → OptionalCounter
-counterRead Absent = Counter.Absent
-counterRead (Present k) = Counter.Present (k .«frame_counter»)
-
--- the bytes that a record is written as with that counter
+-- the bytes that a record is written as with the counter that was read
 abbrev pub rewritten : Header → List ℕ
 rewritten h = headerBytes h (counterOf (counterRead (h .«auxiliary_security_header»)))
 

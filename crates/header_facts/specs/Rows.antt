@@ -19,6 +19,7 @@ use Rattle.key_identifier.specs.declared.OptionalKeySource.the-variants as Sour
 use Rattle.key_identifier.specs.Key.{keyOf}
 use Rattle.security.specs.declared.OptionalSecurityHeader.{OptionalSecurityHeader}
 use Rattle.security.specs.declared.OptionalSecurityHeader.the-variants as Security
+use Rattle.security.specs.Optional.{counterRead}
 use Rattle.security.specs.Security.{securityOf}
 use Rattle.header.specs.declared.Header.{Header}
 use Rattle.header.specs.declared.HeaderRead.{HeaderRead}
@@ -27,7 +28,7 @@ use Rattle.header.specs.declared.HeaderWritten.{HeaderWritten}
 use Rattle.header.specs.Record.{octetSize}
 use Rattle.header.specs.Read.{readHeader, readNumber}
 use Rattle.header.specs.Write.{writeHeader, writtenOutcome}
-use Rattle.header_facts.specs.RoundTrip.{counterRead, rewritten}
+use Rattle.header_facts.specs.RoundTrip.{rewritten}
 
 -- what is to be seen of an answer: a refusal's number, or the record, its length, the crate's number, and the answer and the bytes of writing it
 -- again into a buffer of its length

@@ -7,6 +7,8 @@ use native.Mathlib.Numerals.{add-one}
 use native.Mathlib.Omega.{arith}
 use mathlib.Core.List.{List, [], _∷_, _++_, append-assoc}
 use mathlib.Core.Path.{_≡_, refl, sym, ap, _∙_}
+use mir.Syntax.{w8}
+use mir.Val.{Fits}
 use lib.ListN.{length, getD, take, drop, length-append, length-drop}
 use lib.Seq.{drop-at, take-at, length-take-le, drop-append-le, take-append-le, take-add, drop-drop, drop-cons, take-nil, drop-nil}
 use Rattle.octets.specs.Little.{join, split, number, Bytes}
@@ -30,6 +32,11 @@ bytes-at (x ∷ s) (suc i) b = bytes-at s i (b .1)
 pub bytes-append : (s t : List ℕ) → Bytes s → Bytes t → Bytes (s ++ t)
 bytes-append [] t b c = c
 bytes-append (x ∷ s) t b c = (b .0, bytes-append s t (b .1) c)
+
+-- a slice's elements are bytes
+pub bytes-known : (s : List ℕ) → ((i : ℕ) → Fits w8 (getD s i 0)) → Bytes s
+bytes-known [] f = tt
+bytes-known (x ∷ s) f = (omega (arith, f 0), bytes-known s (λ i. f (suc i)))
 
 -- splitting
 pub split-length : (n v : ℕ) → length (split n v) ≡ n

@@ -35,3 +35,8 @@ missing (Counter.Present n) = false
 abbrev pub counterOf : OptionalCounter → ℕ
 counterOf Counter.Absent = 0
 counterOf (Counter.Present n) = n
+
+-- the counter that was read with a security part
+abbrev pub counterRead : OptionalSecurityHeader → OptionalCounter
+counterRead Absent = Counter.Absent
+counterRead (Present k) = Counter.Present (k .«frame_counter»)

@@ -5,7 +5,7 @@ ghost use Prim.Native.Nat.{_+_, _≤_};
 ghost use lib.ListN.{length};
 ghost use Rattle.octets.specs.Buffer.{laid, after};
 ghost use Rattle.security.specs.Security.{securityOf, securityLength, writtenControl, securityBytes};
-ghost use Rattle.security.specs.Optional.{isPresent, levelTooLarge, optionalLength, optionalBytes, missing, counterOf};
+ghost use Rattle.security.specs.Optional.{isPresent, levelTooLarge, optionalLength, optionalBytes, missing, counterOf, counterRead};
 ghost use Rattle.security.specs.Answer.{readSecurity, readOutcome, writeSecurity, writtenOutcome};
 use key_identifier::OptionalKeyIdentifier;
 use key_identifier::key_at;
@@ -27,6 +27,12 @@ pub struct AuxiliarySecurityHeader {
 pub enum OptionalSecurityHeader {
     Absent,
     Present(AuxiliarySecurityHeader),
+}
+
+// The frame counter that a writer is handed, or none.
+pub enum OptionalCounter {
+    Absent,
+    Present(u32),
 }
 
 impl OptionalSecurityHeader {
@@ -71,12 +77,17 @@ impl OptionalSecurityHeader {
             OptionalSecurityHeader::Present(security) => security.put(out, at, counter),
         }
     }
-}
 
-// The frame counter that a writer is handed, or none.
-pub enum OptionalCounter {
-    Absent,
-    Present(u32),
+    // Its counter, as a writer is handed one.
+    pub fn counter(self) -> OptionalCounter
+        ensures { λ r. ⌜ r ≡ counterRead self ⌝ }
+    {
+        match self {
+            OptionalSecurityHeader::Absent => OptionalCounter::Absent,
+            OptionalSecurityHeader::Present(security) =>
+                OptionalCounter::Present(security.get_frame_counter()),
+        }
+    }
 }
 
 impl OptionalCounter {

@@ -1,0 +1,58 @@
+-- The payload begins within the frame.
+-- Assumes nothing.
+use Prim.Native.Nat.{ℕ, _+_, _-_, _≤_}
+use native.Mathlib.Omega.{arith}
+use mathlib.Core.Bool.{Bool, true, false}
+use mathlib.Core.List.{List}
+use mathlib.Core.Path.{_≡_, refl, sym, ap, _∙_}
+use borrow.Author.Tests.{eq-eqb, ne-eqb, eqb-true, eqb-false}
+use lib.Dec.{eqb}
+use lib.ListN.{length, take, drop, length-drop}
+use lib.Seq.{take-all}
+use Rattle.octets.specs.declared.Outcome.{Outcome}
+use Rattle.octets.proofs.Order.{cases, holds?}
+use Rattle.header.specs.declared.HeaderRead.{HeaderRead}
+use Rattle.header.specs.declared.HeaderRead.the-variants.{Read, Refused}
+use Rattle.header.specs.declared.HeaderRefusal.{HeaderRefusal}
+use Rattle.header.specs.declared.HeaderRefusal.the-variants as Refusal
+use Rattle.header.specs.Read.{readHeader, readNumber}
+use Rattle.header.proofs.Bounds.{length-bounds}
+use Rattle.beacon.specs.declared.BeaconRead.{BeaconRead}
+use Rattle.beacon.specs.Beacon.{readBeacon, beaconLengthIn}
+use Rattle.beacon_facts.proofs.Beacon.{beacon-read, all-found}
+use Rattle.payload.specs.Frame.{opens, behindBeacon, frameAfter, readFrame}
+
+-- a beacon that is read lies whole in the input
+pub beacon-within : (s : List ℕ) (at : ℕ) → readBeacon s at .outcome .number ≡ 0 → readBeacon s at .outcome .length ≤ length s - at
+beacon-within s at e =
+    let q = beacon-read s at e in
+    rw (q .0) (all-found s at (q .1))
+
+refused-number : (r : HeaderRefusal) → readNumber r ≡ 0 → ⊥
+refused-number Refusal.Ended e = omega arith
+refused-number Refusal.Version e = omega arith
+refused-number Refusal.FrameType e = omega arith
+refused-number Refusal.AddressMode e = omega arith
+refused-number Refusal.Compression e = omega arith
+
+behind-within : (s : List ℕ) (at : ℕ) → at ≤ length s → behindBeacon at (readBeacon s at .outcome) .number ≡ 0 → behindBeacon at (readBeacon s at .outcome) .length ≤ length s
+behind-within s at h e =
+    cases (holds? (eqb (readBeacon s at .outcome .number) 0))
+    (λ t. simp t (omega (arith, beacon-within s at (eqb-true _ 0 t))))
+    (λ f. absurd (eqb-false (readBeacon s at .outcome .number) 0 f (simp f at e)))
+
+after-within : (s : List ℕ) (r : HeaderRead) → readHeader s ≡ r → frameAfter s r .outcome .number ≡ 0 → frameAfter s r .outcome .length ≤ length s
+after-within s (Refused r) e f = absurd (refused-number r f)
+after-within s (Read h n) e f =
+    let within = length-bounds s h n e .2 in
+    cases (holds? (opens h))
+    (λ t. simp t (behind-within s n within (simp t at f)))
+    (λ t. simp t within)
+
+pub frame-within : (s : List ℕ) → readFrame s .outcome .number ≡ 0 → readFrame s .outcome .length ≤ length s
+unfolding readFrame
+frame-within s e = after-within s (readHeader s) refl e
+
+-- a part from a place to the end is what dropping the bytes before it leaves
+pub tail : (s : List ℕ) (n : ℕ) → take (length s - n) (drop n s) ≡ drop n s
+tail s n = take-all (length s - n) (drop n s) (simp length-drop (omega arith))

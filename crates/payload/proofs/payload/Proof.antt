@@ -1,0 +1,29 @@
+-- `payload::payload` meets its contract: the payload begins within the frame.
+-- Assumes nothing.
+use mathlib.Core.Path.{refl, sym, ap, _∙_}
+use borrow.Author.Tests.{eq-eqb, ne-eqb}
+use borrow.Author.Needs.{needs}
+use denote.Ref.{now}
+use Rattle.payload.specs.declared.FrameRead.{FrameRead}
+use Rattle.payload.proofs.Laws.{frame-within, tail}
+use Rattle.payload.proofs.payload.Statement.{statement}
+use Rattle.payload.proofs.payload.Tie as tie
+
+start : tie.Need-sub-result
+start c =
+    let call = c .before .before .before in
+    let zero = ap (λ (r : FrameRead). r .outcome .number) (sym (call .read .ensures)) ∙ c .if1 .taken in
+    rw (call .read .ensures) (frame-within (now (call .before .before .args .frame)) zero)
+
+accepted : tie.Need-returns
+accepted c =
+    let call = c .before .before .before .before in
+    rw (← call .read .ensures) (simp (eq-eqb _ 0 (c .before .if1 .taken), tail), refl)
+
+refused : tie.Need-returns-2
+refused c =
+    let call = c .before .before .before .before in
+    rw (← call .read .ensures) (simp (ne-eqb _ 0 (c .before .if1 .left)), refl)
+
+pub payload-spec : {M : Type 1} → statement M
+payload-spec = tie.close (tie.spec (λ c κs. search needs) start start (λ c. search needs) (λ c. search needs) accepted refused)

@@ -1,0 +1,31 @@
+-- `payload::with_beacon` meets its contract: the payload begins behind a beacon that was read, which lies whole in the frame.
+-- Assumes nothing.
+use mathlib.Core.Path.{sym, ap, _∙_}
+use borrow.Author.Tests.{eq-eqb, ne-eqb}
+use native.Mathlib.Omega.{arith}
+use borrow.Author.Needs.{needs}
+use denote.Ref.{now}
+use Rattle.beacon.specs.declared.BeaconRead.{BeaconRead}
+use Rattle.payload.proofs.Laws.{beacon-within}
+use Rattle.payload.proofs.with_beacon.Statement.{statement}
+use Rattle.payload.proofs.with_beacon.Tie as tie
+
+fits : tie.Need-add-t7
+fits c =
+    let call = c .before .before .before .before in
+    let a = call .before .before .args in
+    let zero = ap (λ (r : BeaconRead). r .outcome .number) (sym (call .read .ensures)) ∙ c .before .if1 .taken in
+    omega (arith, beacon-within (now (a .frame)) (a .at) zero, ap (λ (r : BeaconRead). r .outcome .length) (call .read .ensures))
+
+behind : tie.Need-returns
+behind c =
+    let call = c .before .before .before .before in
+    rw (← call .read .ensures) (simp (eq-eqb _ 0 (c .before .if1 .taken)))
+
+refused : tie.Need-returns-2
+refused c =
+    let call = c .before .before .before in
+    rw (← call .read .ensures) (simp (ne-eqb _ 0 (c .if1 .left)))
+
+pub with-beacon-spec : {M : Type 1} → statement M
+with-beacon-spec = tie.close (tie.spec (λ c κs. search needs) fits behind refused)
