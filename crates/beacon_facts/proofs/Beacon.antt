@@ -31,8 +31,8 @@ use Rattle.beacon_facts.specs.Formats.{beacon}
 use Rattle.beacon_facts.proofs.Format.{Taken, Laws}
 use Rattle.beacon_facts.proofs.Places.{over, past, past-length}
 use Rattle.beacon_facts.proofs.Superframe.{superframe-fits, superframe-again, superframe-more, superframe-back, superframe-accepts, superframe-laws}
-use Rattle.beacon_facts.proofs.TimeSlots.{time-slots-fit, time-slots-same, time-slots-typed, time-slots-again, count-more, time-slots-more, count-stored, time-slots-back, time-slots-length, time-slots-bytes, time-slots-accepts}
-use Rattle.beacon_facts.proofs.Pending.{pending-fits, pending-same, pending-size, pending-typed, pending-again, counts-more, pending-more, shorts-stored, extendeds-stored, pending-back, pending-length, pending-bytes, pending-accepts}
+use Rattle.beacon_facts.proofs.TimeSlots.{time-slots-fit, time-slots-same, time-slots-typed, time-slots-again, count-more, time-slots-more, count-stored, time-slots-back, time-slots-length, time-slots-bytes, time-slots-reset-fits, time-slots-settled, time-slots-accepts}
+use Rattle.beacon_facts.proofs.Pending.{pending-fits, pending-same, pending-size, pending-typed, pending-again, counts-more, pending-more, shorts-stored, extendeds-stored, pending-back, pending-length, pending-bytes, pending-reset-fits, pending-settled, pending-accepts}
 
 -- each part was there
 pub record Found (s : List ℕ) (at : ℕ) : Type 0 where
@@ -240,6 +240,26 @@ module _ (x : Beacon) (typed : beacon .Typed x) (f : beaconTooLarge x ≡ false)
         (rw (length-back, length-append p (beaconBytes x ++ t), length-append (beaconBytes x) t, beacon-length) (omega arith))
         ∙ rw (beacon-back, length-back)
 
+module _ (x : Beacon) (typed : beacon .Typed x) (f : beaconTooLarge x ≡ false) where
+  beacon-reset-fits : beaconTooLarge (beacon .reset x) ≡ false
+  unfolding beaconTooLarge
+  beacon-reset-fits =
+      let fits = fitting x f in
+      rw (
+        fits .superframe,
+        time-slots-reset-fits (x .«guaranteed_time_slot_info») (typed .0) (fits .slots),
+        pending-reset-fits (x .«pending_address») (typed .1) (fits .pending),
+      )
+
+  beacon-settled : beaconBytes (beacon .reset x) ≡ beaconBytes x
+  unfolding beaconBytes
+  beacon-settled =
+      let fits = fitting x f in
+      rw (
+        time-slots-settled (x .«guaranteed_time_slot_info») (typed .0) (fits .slots),
+        pending-settled (x .«pending_address») (typed .1) (fits .pending),
+      )
+
 pub beacon-bytes : (x : Beacon) → Bytes (beaconBytes x)
 unfolding beaconBytes
 beacon-bytes x =
@@ -270,5 +290,10 @@ beacon-laws =
                 ∙ rw (beacon-more s at found t, length-more s at found t);
           });
       bytes = beacon-bytes;
-      returned = λ x typed f. record { long = beacon-length x typed f; back = λ p t h. read-back x typed f p t };
+      returned = λ x typed f. record {
+        long = beacon-length x typed f;
+        back = λ p t h. read-back x typed f p t;
+        fits = beacon-reset-fits x typed f;
+        settled = beacon-settled x typed f;
+      };
     }

@@ -85,6 +85,15 @@ same-in : (s : List ℕ) (at : ℕ) → descriptor .reset (descriptorIn s at Rec
 unfolding descriptorIn
 same-in s at = refl
 
+-- the direction is not looked at
+reset-fits : (x : GuaranteedTimeSlotDescriptor) → descriptorTooLarge x ≡ false → descriptorTooLarge (descriptor .reset x) ≡ false
+unfolding descriptorTooLarge
+reset-fits x f = f
+
+settled : (x : GuaranteedTimeSlotDescriptor) → descriptorBytes (descriptor .reset x) ≡ descriptorBytes x
+unfolding descriptorBytes
+settled x = refl
+
 pub descriptor-laws : Laws descriptor
 unfolding descriptorCleared
 descriptor-laws =
@@ -109,6 +118,8 @@ descriptor-laws =
       bytes = descriptor-bytes;
       returned = λ x typed f. record {
         long = descriptor-length x;
+        fits = reset-fits x f;
+        settled = settled x;
         back = λ p t h.
             accepts-there (p ++ (descriptorBytes x ++ t)) (length p) (rw (length-append p (descriptorBytes x ++ t), length-append (descriptorBytes x) t, descriptor-length x) (omega arith))
             ∙ ap (λ (x : GuaranteedTimeSlotDescriptor). descriptor .accepts x 3) (descriptor-back x p t (length p) Receive typed f refl);

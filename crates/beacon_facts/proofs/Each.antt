@@ -11,7 +11,7 @@ use mathlib.Core.Path.{_≡_, refl, sym, ap, _∙_}
 use borrow.Author.Tests.{lt-ltb, ltb-true}
 use lib.Dec.{ltb}
 use lib.ListN.{length, getD, take, drop, take-append-drop, length-append}
-use lib.Seq.{take-add, drop-drop, take-take}
+use lib.Seq.{take-add, drop-drop, take-take, drop-cons}
 use Rattle.octets.specs.Little.{Bytes}
 use Rattle.octets.proofs.Little.{bytes-append}
 use Rattle.octets.proofs.Order.{cases, holds?}
@@ -60,6 +60,14 @@ module _ {A : Type 0} where
   seven-all P entry empty n none some k h =
       rw (seven-entry entry empty n k h)
       (cases (holds? (ltb k n)) (λ e. rw e (some k (ltb-true k n e))) (λ e. rw e none))
+
+  -- and of an array whose unused places were made empty
+  span-list : (l : List A) (empty : A) (i m : ℕ) → i + m ≤ length l → span (λ (k : ℕ). getD l k empty) i m ≡ take m (drop i l)
+  span-list l empty i zero h = refl
+  span-list l empty i (suc m) h = rw (span-list l empty (i + 1) m (omega arith), add-one i, drop-cons l i empty (omega arith))
+
+  pub reset-in-use : (l : List A) (empty : A) (n : ℕ) → n ≤ 7 → n ≤ length l → take n (reset l empty n) ≡ take n l
+  reset-in-use l empty n few h = in-use (λ (k : ℕ). getD l k empty) empty n few ∙ span-list l empty 0 n (omega arith)
 
   -- a test that fails of each entry fails of all
   pub span-fails : (test : A → Bool) (entry : ℕ → A) → ((k : ℕ) → test (entry k) ≡ false) → (i m : ℕ) → some test (span entry i m) ≡ false

@@ -30,7 +30,7 @@ use Rattle.beacon_facts.specs.Format.{Returned}
 use Rattle.beacon_facts.specs.Formats.{pending, Seven, PendingTyped, pendingReset}
 use Rattle.beacon_facts.proofs.Format.{Taken, Laws}
 use Rattle.beacon_facts.proofs.Places.{split-one, byte-small, over, past, past-length, number-first}
-use Rattle.beacon_facts.proofs.Each.{entries-again, entry-place, entry-at, each-bytes, seven-reset, seven-all}
+use Rattle.beacon_facts.proofs.Each.{reset-in-use, entries-again, entry-place, entry-at, each-bytes, seven-reset, seven-all}
 
 header-again : (b : ℕ) → b < 256 → b % 8 + 16 * bits b 4 3 ≡ clear 3 1 (clear 7 1 b)
 header-again = same (λ b. b % 8 + 16 * bits b 4 3) (λ b. clear 3 1 (clear 7 1 b)) 256 tt
@@ -161,6 +161,21 @@ module _ (x : PendingAddress) (typed : PendingTyped x) (f : pendingTooLarge x �
     unfolding pendingIn
     pending-back = rw (shorts-stored, extendeds-stored, short-list, extended-list)
 
+-- an address past its count is not looked at
+module _ (x : PendingAddress) (typed : PendingTyped x) (f : pendingTooLarge x ≡ false) where
+  pub pending-reset-fits : pendingTooLarge (pendingReset x) ≡ false
+  unfolding pendingTooLarge
+  pending-reset-fits = f
+
+  pub pending-settled : pendingBytes (pendingReset x) ≡ pendingBytes x
+  unfolding pendingBytes
+  pending-settled =
+      let few = fitting x f in
+      rw (
+        reset-in-use (x .«short_addresses») emptyShort (x .«short_address_count») (few .0) (rw (typed .0 .0) (few .0)),
+        reset-in-use (x .«extended_addresses») emptyExtended (x .«extended_address_count») (few .1) (rw (typed .1 .0) (few .1)),
+      )
+
 pub pending-bytes : (x : PendingAddress) → Bytes (pendingBytes x)
 unfolding pendingBytes
 pending-bytes x =
@@ -245,6 +260,8 @@ pending-laws =
       bytes = pending-bytes;
       returned = λ x typed f. record {
         long = pending-length x typed f;
+        fits = pending-reset-fits x typed f;
+        settled = pending-settled x typed f;
         back = λ p t h.
             let shorts = shorts-stored x typed f p t (length p) refl in
             let extendeds = extendeds-stored x typed f p t (length p) refl in

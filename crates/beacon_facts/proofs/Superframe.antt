@@ -113,6 +113,8 @@ superframe-laws =
       bytes = λ x. superframe-bytes x;
       returned = λ x typed f. record {
         long = superframe-length x;
+        fits = f;
+        settled = refl;
         back = λ p t h.
             superframe-accepts (p ++ (superframeBytes x ++ t)) (length p) (rw (length-append p (superframeBytes x ++ t), length-append (superframeBytes x) t, superframe-length x) (omega arith))
             ∙ ap (λ (x : SuperframeSpecification). superframe .accepts x 2) (superframe-back x p t (length p) f refl);

@@ -34,7 +34,7 @@ use Rattle.beacon_facts.specs.Format.{Returned}
 use Rattle.beacon_facts.specs.Formats.{timeSlots, DescriptorTyped, TimeSlotsTyped, timeSlotsReset}
 use Rattle.beacon_facts.proofs.Format.{Taken, Laws}
 use Rattle.beacon_facts.proofs.Places.{split-one, byte-small, past, past-length, number-first}
-use Rattle.beacon_facts.proofs.Each.{span, in-use, span-fails, entries-again, entry-place, entry-at, each-bytes, seven-reset, seven-all}
+use Rattle.beacon_facts.proofs.Each.{span, in-use, reset-in-use, span-fails, entries-again, entry-place, entry-at, each-bytes, seven-reset, seven-all}
 use Rattle.beacon_facts.proofs.Descriptor.{descriptor-fits, descriptor-again, descriptor-more, descriptor-typed, descriptor-back, descriptor-bytes}
 
 -- seven slots take 22 bytes
@@ -270,6 +270,19 @@ module _ (s : List ℕ) (at : ℕ) where
                 (λ k h. slot-more s (at + 1) (slotCountIn s at) t (omega (arith, list-there, length-some (slotCountIn s at) (λ e. absurd (omega arith)))) k h),
           )
 
+-- a slot past the count is not looked at
+module _ (x : GuaranteedTimeSlotInformation) (typed : TimeSlotsTyped x) (f : timeSlotsTooLarge x ≡ false) where
+  slots-in-use : take (x .«slot_count») (timeSlotsReset x .slots) ≡ take (x .«slot_count») (x .slots)
+  slots-in-use = reset-in-use (x .slots) emptyDescriptor (x .«slot_count») (fitting x f .0) (rw (typed .0) (fitting x f .0))
+
+  pub time-slots-reset-fits : timeSlotsTooLarge (timeSlotsReset x) ≡ false
+  unfolding timeSlotsTooLarge
+  time-slots-reset-fits = rw slots-in-use f
+
+  pub time-slots-settled : timeSlotsBytes (timeSlotsReset x) ≡ timeSlotsBytes x
+  unfolding timeSlotsBytes
+  time-slots-settled = rw slots-in-use
+
 pub time-slots-accepts : (s : List ℕ) (at : ℕ) → 1 + slotsDemand (slotCountIn s at) ≤ length s - at →
     readTimeSlots s at ≡ timeSlots .accepts (timeSlotsIn s at) (timeSlotsLengthIn s at)
 unfolding readTimeSlots
@@ -303,6 +316,8 @@ time-slots-laws =
       bytes = time-slots-bytes;
       returned = λ x typed f. record {
         long = time-slots-length x typed f [] [] 0 refl;
+        fits = time-slots-reset-fits x typed f;
+        settled = time-slots-settled x typed f;
         back = λ p t h.
             let count = count-stored x typed f p t (length p) refl in
             let long = time-slots-length x typed f [] [] 0 refl in

@@ -44,7 +44,10 @@ pub record Rewritten {X R : Type 0} (F : Format X R) (s : List ℕ) (at : ℕ) (
 -- from the record: x is free of refusal 8
 pub record Returned {X R : Type 0} (F : Format X R) (x : X) : Type 0 where
   pub long : length (F .bytes x) ≡ F .size x
+  -- read back it is x with its unused places empty, which is written as x is: entries past a count are ignored
   pub back : (p t : List ℕ) → F .spare x ≤ length t → F .read (p ++ (F .bytes x ++ t)) (length p) ≡ F .accepts (F .reset x) (F .size x)
+  pub fits : F .tooLarge (F .reset x) ≡ false
+  pub settled : F .bytes (F .reset x) ≡ F .bytes x
 
 -- demand 3, from the bytes and from the record
 abbrev pub FromBytes : {X R : Type 0} → Format X R → Type 0
