@@ -19,20 +19,19 @@ use Rattle.superframe.specs.Superframe.{superframeIn, readSuperframe, superfram
 use Rattle.superframe.proofs.Superframe.{superframe-length, superframe-read}
 use Rattle.time_slots.specs.TimeSlots.{slotsLength, slotsDemand, slotCountIn, timeSlotsIn, timeSlotsLengthIn, readTimeSlots, timeSlotsBytes, timeSlotsSize}
 use Rattle.time_slots.proofs.TimeSlots.{demand-enough, time-slots-read}
-use Rattle.pending.specs.Pending.{shortCountIn, extendedCountIn, pendingIn, pendingLengthIn, readPending, pendingBytes, pendingSize}
+use Rattle.pending.specs.Pending.{shortCountIn, extendedCountIn, pendingIn, pendingLengthIn, readPending, pendingBytes}
 use Rattle.pending.proofs.Pending.{pending-read}
 use Rattle.beacon.specs.declared.Beacon.{Beacon}
 use Rattle.beacon.specs.declared.BeaconRead.{BeaconRead}
 use Rattle.beacon.specs.Beacon.{pendingPlace, beaconOf, beaconIn, beaconLengthIn, beaconRefused, readBeacon, beaconBytes, beaconSize, beaconTooLarge}
 use Rattle.beacon.proofs.Content.{fitting}
 use Rattle.beacon_facts.specs.Cleared.{beaconCleared}
-use Rattle.beacon_facts.specs.Format.{Returned}
 use Rattle.beacon_facts.specs.Formats.{beacon}
-use Rattle.beacon_facts.proofs.Format.{Taken, Laws}
+use Rattle.beacon_facts.proofs.Format.{Laws}
 use Rattle.beacon_facts.proofs.Places.{over, past, past-length}
 use Rattle.beacon_facts.proofs.Superframe.{superframe-fits, superframe-again, superframe-more, superframe-back, superframe-accepts, superframe-laws}
 use Rattle.beacon_facts.proofs.TimeSlots.{time-slots-fit, time-slots-same, time-slots-typed, time-slots-again, count-more, time-slots-more, count-stored, time-slots-back, time-slots-length, time-slots-bytes, time-slots-reset-fits, time-slots-settled, time-slots-accepts}
-use Rattle.beacon_facts.proofs.Pending.{pending-fits, pending-same, pending-size, pending-typed, pending-again, counts-more, pending-more, shorts-stored, extendeds-stored, pending-back, pending-length, pending-bytes, pending-reset-fits, pending-settled, pending-accepts}
+use Rattle.beacon_facts.proofs.Pending.{pending-fits, pending-same, pending-typed, pending-again, counts-more, pending-more, shorts-stored, extendeds-stored, pending-back, pending-length, pending-bytes, pending-reset-fits, pending-settled, pending-accepts}
 
 -- each part was there
 pub record Found (s : List ℕ) (at : ℕ) : Type 0 where

@@ -1,20 +1,18 @@
 -- Demand 3 of a slot's descriptor: its last byte put together again is the byte that was read.
 -- Assumes nothing.
-use Prim.Native.Nat.{ℕ, _+_, _-_, _*_, _/_, _%_, _^_, _≤_, _<_}
+use Prim.Native.Nat.{ℕ, _+_, _-_, _*_, _/_, _%_, _≤_, _<_}
 use native.Mathlib.Nat.{mod-eq-of-lt}
 use native.Mathlib.Omega.{arith}
-use mathlib.Core.Bool.{Bool, true, false}
-use mathlib.Core.List.{List, [], _∷_, _++_}
+use mathlib.Core.Bool.{false}
+use mathlib.Core.List.{List, _++_}
 use mathlib.Core.Path.{_≡_, refl, sym, ap, _∙_}
 use borrow.Author.Tests.{le-ltb}
 use lib.ListN.{length, take, drop, length-append}
 use lib.Seq.{take-add, drop-drop}
 use Rattle.octets.specs.Bits.{bits}
 use Rattle.octets.specs.Little.{number, split, Bytes}
-use Rattle.octets.specs.Part.{ends}
 use Rattle.octets.proofs.Each.{same}
 use Rattle.octets.proofs.Little.{split-length, split-bytes, bytes-append, number-again, number-small, number-more}
-use Rattle.octets.proofs.Order.{cases, holds?}
 use Rattle.time_slot.specs.declared.Direction.{Direction}
 use Rattle.time_slot.specs.declared.Direction.the-variants.{Receive}
 use Rattle.time_slot.specs.declared.GuaranteedTimeSlotDescriptor.{GuaranteedTimeSlotDescriptor}
@@ -22,9 +20,8 @@ use Rattle.time_slot.specs.declared.DescriptorRead.{DescriptorRead}
 use Rattle.time_slot.specs.Descriptor.{descriptorOf, descriptorIn, readDescriptor, slotByte, descriptorBytes, descriptorTooLarge}
 use Rattle.time_slot.proofs.Descriptor.{descriptor-length, fitting, descriptor-read}
 use Rattle.beacon_facts.specs.Cleared.{descriptorCleared}
-use Rattle.beacon_facts.specs.Format.{Returned}
 use Rattle.beacon_facts.specs.Formats.{descriptor, DescriptorTyped}
-use Rattle.beacon_facts.proofs.Format.{Taken, Laws}
+use Rattle.beacon_facts.proofs.Format.{Laws}
 use Rattle.beacon_facts.proofs.Places.{byte-small, number-first, number-second}
 
 slot-again : (b : ℕ) → b < 256 → b % 16 + 16 * bits b 4 4 ≡ b

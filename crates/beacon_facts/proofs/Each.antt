@@ -1,7 +1,7 @@
 -- Entries side by side, each of w bytes, as an array of seven holds them: written again as they stood, read back from what was written, and
 -- not altered by what follows.
 -- Assumes nothing.
-use Prim.Native.Nat.{ℕ, zero, suc, _+_, _-_, _*_, _≤_, _<_}
+use Prim.Native.Nat.{ℕ, zero, suc, _+_, _*_, _≤_, _<_}
 use native.Mathlib.Nat.{mul-zero, mul-suc, mul-add}
 use native.Mathlib.Numerals.{add-one}
 use native.Mathlib.Omega.{arith}
@@ -10,7 +10,7 @@ use mathlib.Core.List.{List, [], _∷_, _++_, append-assoc, flatMap}
 use mathlib.Core.Path.{_≡_, refl, sym, ap, _∙_}
 use borrow.Author.Tests.{lt-ltb, ltb-true}
 use lib.Dec.{ltb}
-use lib.ListN.{length, getD, take, drop, take-append-drop, length-append}
+use lib.ListN.{length, getD, take, drop, take-append-drop}
 use lib.Seq.{take-add, drop-drop, take-take, drop-cons}
 use Rattle.octets.specs.Little.{Bytes}
 use Rattle.octets.proofs.Little.{bytes-append}

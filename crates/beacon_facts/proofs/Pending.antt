@@ -5,7 +5,7 @@ use Prim.Native.Nat.{ℕ, _+_, _-_, _*_, _/_, _%_, _^_, _≤_, _<_}
 use native.Mathlib.Nat.{mod-eq-of-lt}
 use native.Mathlib.Omega.{arith}
 use mathlib.Core.Bool.{false}
-use mathlib.Core.List.{List, [], _∷_, _++_, flatMap}
+use mathlib.Core.List.{List, _++_, flatMap}
 use mathlib.Core.Path.{_≡_, refl, sym, ap, _∙_}
 use borrow.Author.Tests.{le-ltb}
 use lib.ListN.{length, getD, take, drop, length-append}
@@ -18,17 +18,16 @@ use Rattle.identifiers.specs.declared.ShortAddress.{ShortAddress}
 use Rattle.identifiers.specs.declared.ExtendedAddress.{ExtendedAddress}
 use Rattle.identifiers.specs.ShortAddress.{short}
 use Rattle.identifiers.specs.ExtendedAddress.{extended}
-use Rattle.beacon_part.specs.Seven.{seven, reset}
+use Rattle.beacon_part.specs.Seven.{reset}
 use Rattle.beacon_part.proofs.Seven.{seven-length, seven-same, each-length}
 use Rattle.pending.specs.declared.PendingAddress.{PendingAddress}
 use Rattle.pending.specs.declared.PendingRead.{PendingRead}
 use Rattle.pending.specs.Addresses.{shortAt, extendedAt, emptyShort, emptyExtended, shortsIn, extendedsIn, shortBytes, extendedBytes}
-use Rattle.pending.specs.Pending.{addressesLength, pendingOf, shortCountIn, extendedCountIn, pendingIn, pendingLengthIn, readPending, pendingHeader, pendingBytes, pendingSize, pendingTooLarge}
+use Rattle.pending.specs.Pending.{shortCountIn, extendedCountIn, pendingIn, pendingLengthIn, readPending, pendingHeader, pendingBytes, pendingSize, pendingTooLarge}
 use Rattle.pending.proofs.Pending.{fitting, pending-read}
 use Rattle.beacon_facts.specs.Cleared.{pendingCleared}
-use Rattle.beacon_facts.specs.Format.{Returned}
 use Rattle.beacon_facts.specs.Formats.{pending, Seven, PendingTyped, pendingReset}
-use Rattle.beacon_facts.proofs.Format.{Taken, Laws}
+use Rattle.beacon_facts.proofs.Format.{Laws}
 use Rattle.beacon_facts.proofs.Places.{split-one, byte-small, over, past, past-length, number-first}
 use Rattle.beacon_facts.proofs.Each.{reset-in-use, entries-again, entry-place, entry-at, each-bytes, seven-reset, seven-all}
 

@@ -1,10 +1,10 @@
 -- Demand 3 of the superframe specification: each of its two bytes put together again is the byte that was read, bit 5 of the second clear.
 -- Assumes nothing.
-use Prim.Native.Nat.{ℕ, _+_, _-_, _*_, _/_, _%_, _^_, _≤_, _<_}
+use Prim.Native.Nat.{ℕ, _+_, _-_, _*_, _/_, _%_, _≤_, _<_}
 use native.Mathlib.Nat.{mod-eq-of-lt}
 use native.Mathlib.Omega.{arith}
-use mathlib.Core.Bool.{Bool, true, false}
-use mathlib.Core.List.{List, [], _∷_, _++_}
+use mathlib.Core.Bool.{false}
+use mathlib.Core.List.{List, _++_}
 use mathlib.Core.Path.{_≡_, refl, sym, ap, _∙_}
 use borrow.Author.Tests.{le-ltb}
 use lib.ListN.{length, length-append}
@@ -16,13 +16,12 @@ use Rattle.octets.proofs.Little.{split-length, split-bytes, bytes-append, numbe
 use Rattle.superframe.specs.declared.SuperframeSpecification.{SuperframeSpecification}
 use Rattle.superframe.specs.declared.SuperframeRead.{SuperframeRead}
 use Rattle.superframe.specs.Orders.{beaconOrderOf, beaconOrderBits, superframeOrderOf, superframeOrderBits}
-use Rattle.superframe.specs.Superframe.{superframeOf, superframeIn, readSuperframe, ordersByte, restByte, superframeBytes, superframeTooLarge}
+use Rattle.superframe.specs.Superframe.{superframeIn, readSuperframe, ordersByte, restByte, superframeBytes, superframeTooLarge}
 use Rattle.superframe.proofs.Orders.{beacon-order-back, beacon-order-again, superframe-order-back, superframe-order-again}
 use Rattle.superframe.proofs.Superframe.{superframe-length, fitting, superframe-read}
 use Rattle.beacon_facts.specs.Cleared.{superframeCleared}
-use Rattle.beacon_facts.specs.Format.{Returned}
 use Rattle.beacon_facts.specs.Formats.{superframe}
-use Rattle.beacon_facts.proofs.Format.{Taken, Laws}
+use Rattle.beacon_facts.proofs.Format.{Laws}
 use Rattle.beacon_facts.proofs.Places.{split-one, byte-small, number-first, number-second}
 
 -- each byte, taken apart and put together again

@@ -4,7 +4,7 @@
 use Prim.Native.Nat.{ℕ, zero, suc, _+_, _-_, _*_, _/_, _%_, _^_, _≤_, _<_}
 use native.Mathlib.Nat.{mod-eq-of-lt}
 use native.Mathlib.Omega.{arith}
-use mathlib.Core.Bool.{Bool, true, false}
+use mathlib.Core.Bool.{false}
 use mathlib.Core.List.{List, [], _∷_, _++_, flatMap}
 use mathlib.Core.Path.{_≡_, refl, sym, ap, _∙_}
 use borrow.Author.Tests.{le-ltb}
@@ -17,7 +17,7 @@ use Rattle.octets.specs.Little.{number, split, Bytes}
 use Rattle.octets.proofs.Bits.{bit-back, bit-small}
 use Rattle.octets.proofs.Each.{same}
 use Rattle.octets.proofs.Little.{split-length, split-bytes, bytes-append, number-more}
-use Rattle.beacon_part.specs.Seven.{seven, reset, some}
+use Rattle.beacon_part.specs.Seven.{reset, some}
 use Rattle.beacon_part.proofs.Seven.{seven-length, seven-same, some-fails}
 use Rattle.time_slot.specs.declared.Direction.{Direction}
 use Rattle.time_slot.specs.declared.Direction.the-variants.{Receive, Transmit}
@@ -27,12 +27,11 @@ use Rattle.time_slot.specs.Descriptor.{emptyDescriptor, descriptorIn, descripto
 use Rattle.time_slot.proofs.Descriptor.{descriptor-length}
 use Rattle.time_slots.specs.declared.GuaranteedTimeSlotInformation.{GuaranteedTimeSlotInformation}
 use Rattle.time_slots.specs.declared.TimeSlotsRead.{TimeSlotsRead}
-use Rattle.time_slots.specs.TimeSlots.{slotsLength, slotsDemand, slotAt, slotsIn, timeSlotsOf, slotCountIn, timeSlotsIn, timeSlotsLengthIn, readTimeSlots, directionsOf, listBytes, timeSlotsHeader, timeSlotsBytes, timeSlotsSize, timeSlotsTooLarge}
+use Rattle.time_slots.specs.TimeSlots.{slotsLength, slotsDemand, slotAt, slotsIn, slotCountIn, timeSlotsIn, timeSlotsLengthIn, readTimeSlots, directionsOf, listBytes, timeSlotsHeader, timeSlotsBytes, timeSlotsSize, timeSlotsTooLarge}
 use Rattle.time_slots.proofs.TimeSlots.{length-some, demand-enough, direction-small, directions-small, list-some, list-length, fitting, time-slots-read}
-use Rattle.beacon_facts.specs.Cleared.{byte, listCleared, timeSlotsCleared}
-use Rattle.beacon_facts.specs.Format.{Returned}
+use Rattle.beacon_facts.specs.Cleared.{listCleared, timeSlotsCleared}
 use Rattle.beacon_facts.specs.Formats.{timeSlots, DescriptorTyped, TimeSlotsTyped, timeSlotsReset}
-use Rattle.beacon_facts.proofs.Format.{Taken, Laws}
+use Rattle.beacon_facts.proofs.Format.{Laws}
 use Rattle.beacon_facts.proofs.Places.{split-one, byte-small, past, past-length, number-first}
 use Rattle.beacon_facts.proofs.Each.{span, in-use, reset-in-use, span-fails, entries-again, entry-place, entry-at, each-bytes, seven-reset, seven-all}
 use Rattle.beacon_facts.proofs.Descriptor.{descriptor-fits, descriptor-again, descriptor-more, descriptor-typed, descriptor-back, descriptor-bytes}

@@ -4,8 +4,8 @@ use Prim.Native.Nat.{ℕ, zero, suc, _+_, _*_, _≤_, _<_}
 use native.Mathlib.Nat.{mul-zero, mul-suc, mul-add}
 use native.Mathlib.Numerals.{add-one}
 use native.Mathlib.Omega.{arith}
-use mathlib.Core.Bool.{Bool, true, false, cond, _||_}
-use mathlib.Core.List.{List, [], _∷_, _++_, flatMap}
+use mathlib.Core.Bool.{Bool, true, false, cond}
+use mathlib.Core.List.{List, [], _∷_, flatMap}
 use mathlib.Core.Path.{_≡_, refl, sym}
 use borrow.Author.Tests.{ltb-true}
 use lib.Dec.{ltb}
@@ -14,7 +14,7 @@ use lib.Seq.{length-take-le, drop-cons, getD-take}
 use Rattle.octets.specs.Buffer.{laid}
 use Rattle.octets.proofs.Buffer.{laid-join, laid-none}
 use Rattle.octets.proofs.Order.{cases, holds?}
-use Rattle.beacon_part.specs.Seven.{seven, reset, some}
+use Rattle.beacon_part.specs.Seven.{seven, some}
 use Rattle.beacon_part.proofs.Value.{neither}
 
 module _ {A : Type 0} where

@@ -12,7 +12,6 @@ use Rattle.octets.specs.Part.{ends}
 use Rattle.octets.proofs.Order.{cases, holds?}
 use Rattle.beacon_part.proofs.Value.{neither}
 use Rattle.pending.specs.declared.PendingAddress.{PendingAddress}
-use Rattle.pending.specs.declared.PendingRead.{PendingRead}
 use Rattle.pending.specs.Pending.{pendingIn, pendingLengthIn, readPending, pendingTooLarge}
 
 -- each count is at most seven

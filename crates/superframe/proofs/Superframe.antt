@@ -13,7 +13,6 @@ use Rattle.octets.proofs.Little.{split-length}
 use Rattle.octets.proofs.Order.{cases, holds?}
 use Rattle.beacon_part.proofs.Value.{neither}
 use Rattle.superframe.specs.declared.SuperframeSpecification.{SuperframeSpecification}
-use Rattle.superframe.specs.declared.SuperframeRead.{SuperframeRead}
 use Rattle.superframe.specs.Orders.{beaconOrderBits, beaconOrderTooLarge, superframeOrderBits, superframeOrderTooLarge}
 use Rattle.superframe.specs.Superframe.{superframeIn, readSuperframe, ordersByte, superframeBytes, superframeTooLarge}
 use Rattle.superframe.proofs.Orders.{beacon-order-small, superframe-order-small}

@@ -14,7 +14,6 @@ use Rattle.octets.proofs.Order.{cases, holds?}
 use Rattle.beacon_part.proofs.Value.{neither}
 use Rattle.time_slot.specs.declared.Direction.the-variants.{Receive}
 use Rattle.time_slot.specs.declared.GuaranteedTimeSlotDescriptor.{GuaranteedTimeSlotDescriptor}
-use Rattle.time_slot.specs.declared.DescriptorRead.{DescriptorRead}
 use Rattle.time_slot.specs.Descriptor.{descriptorIn, readDescriptor, descriptorBytes, descriptorTooLarge}
 
 pub descriptor-length : (x : GuaranteedTimeSlotDescriptor) → length (descriptorBytes x) ≡ 3

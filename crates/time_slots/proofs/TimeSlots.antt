@@ -24,7 +24,6 @@ use Rattle.time_slot.specs.Direction.{directionBit}
 use Rattle.time_slot.specs.Descriptor.{descriptorBytes, descriptorTooLarge}
 use Rattle.time_slot.proofs.Descriptor.{descriptor-length}
 use Rattle.time_slots.specs.declared.GuaranteedTimeSlotInformation.{GuaranteedTimeSlotInformation}
-use Rattle.time_slots.specs.declared.TimeSlotsRead.{TimeSlotsRead}
 use Rattle.time_slots.specs.TimeSlots.{slotsLength, slotsDemand, slotCountIn, timeSlotsIn, timeSlotsLengthIn, readTimeSlots, directionsOf, listBytes, timeSlotsTooLarge}
 
 -- how many bytes slots take and are asked for

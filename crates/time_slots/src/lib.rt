@@ -9,7 +9,7 @@ ghost use Rattle.octets.specs.Buffer.{laid, after};
 ghost use Rattle.beacon_part.specs.Value.{valueOutcome};
 ghost use Rattle.beacon_part.specs.Seven.{some};
 ghost use Rattle.time_slot.specs.Descriptor.{descriptorBytes, descriptorTooLarge};
-ghost use Rattle.time_slots.specs.TimeSlots.{slotsLength, slotsDemand, slotAt, slotsIn, emptyTimeSlots, timeSlotsRefused, timeSlotsIn, readTimeSlots, directionsOf, listBytes, timeSlotsHeader, timeSlotsBytes, timeSlotsSize, timeSlotsTooLarge, writeTimeSlots};
+ghost use Rattle.time_slots.specs.TimeSlots.{slotsLength, slotsDemand, slotAt, slotsIn, emptyTimeSlots, timeSlotsRefused, readTimeSlots, directionsOf, listBytes, timeSlotsHeader, timeSlotsBytes, timeSlotsSize, timeSlotsTooLarge, writeTimeSlots};
 use beacon_part::ValueWritten;
 use octets::Outcome;
 use octets::bit_of;

@@ -3,7 +3,7 @@
 use native.Mathlib.Omega.{arith}
 use borrow.Author.Needs.{needs}
 use Rattle.octets.proofs.Little.{split-length}
-use Rattle.octets.proofs.Buffer.{laid-join}
+use Rattle.beacon_part.proofs.Buffer.{laid-two}
 use Rattle.beacon_part.proofs.Seven.{each-length}
 use Rattle.pending.specs.Addresses.{shortBytes}
 use Rattle.pending.proofs.put_lists.Statement.{statement}
@@ -20,9 +20,9 @@ returns c =
     let first = second .before .before .before .before in
     let a = first .before .before .before in (
       omega (arith, second .put-extendeds .ensures .0, first .put-shorts .ensures .0),
-      simp (second .put-extendeds .ensures .1, first .put-shorts .ensures .1)
-          (laid-join _ _ _ _ _ _ (each-length shortBytes 2 (λ x. split-length 2 (x .0)) (a .args .shorts) (a .args .m) (omega (arith, a .good .0 .1 .0 .1, a .pre .0)))
-          (first .put-shorts .ensures .0)),
+      laid-two _ _ _ _ _ _
+          (each-length shortBytes 2 (λ x. split-length 2 (x .0)) (a .args .shorts) (a .args .m) (omega (arith, a .good .0 .1 .0 .1, a .pre .0)))
+          (first .put-shorts .ensures .0) (first .put-shorts .ensures .1) (second .put-extendeds .ensures .1),
     )
 
 pub put-lists-spec : {M : Type 1} → statement M

@@ -4,7 +4,6 @@ use Prim.Native.Nat.{_+_, _-_, _*_, _≤_}
 use native.Mathlib.Omega.{arith}
 use mathlib.Core.List.{flatMap}
 use mathlib.Core.Path.{_≡_, refl, sym, _∙_}
-use borrow.Author.Needs.{needs}
 use lib.ListN.{length, take, drop}
 use Rattle.octets.specs.Buffer.{laid}
 use Rattle.beacon_part.proofs.Seven.{some-fails, put-next, put-done}

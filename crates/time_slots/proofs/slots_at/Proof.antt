@@ -1,12 +1,11 @@
 -- `time_slots::slots_at` meets its contract. The invariant: the places passed hold their slots, and the others are empty.
 -- Assumes nothing.
-use Prim.Native.Nat.{ℕ, _-_, _≤_}
+use Prim.Native.Nat.{_-_, _≤_}
 use native.Mathlib.Omega.{arith}
-use mathlib.Core.Path.{_≡_, refl, sym, ap, _∙_}
+use mathlib.Core.Path.{_≡_, sym, ap, _∙_}
 use borrow.Author.Needs.{needs}
 use Rattle.beacon_part.proofs.Seven.{seven-none, seven-more}
-use Rattle.time_slot.specs.Descriptor.{emptyDescriptor}
-use Rattle.time_slots.specs.TimeSlots.{slotAt, slotsIn}
+use Rattle.time_slots.specs.TimeSlots.{slotsIn}
 use Rattle.time_slots.proofs.TimeSlots.{length-some}
 use Rattle.time_slots.proofs.slots_at.Statement.{statement}
 use Rattle.time_slots.proofs.slots_at.Tie as tie

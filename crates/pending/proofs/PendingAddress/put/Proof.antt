@@ -3,7 +3,7 @@
 use native.Mathlib.Omega.{arith}
 use borrow.Author.Needs.{needs}
 use Rattle.octets.proofs.Little.{split-length}
-use Rattle.octets.proofs.Buffer.{laid-join}
+use Rattle.beacon_part.proofs.Buffer.{laid-two}
 use Rattle.pending.specs.Pending.{pendingBytes}
 use Rattle.pending.proofs.Pending.{fitting}
 use Rattle.pending.proofs.PendingAddress.put.Statement.{statement}
@@ -22,8 +22,8 @@ returns c =
     let second = c .before .before in
     let first = second .before .before .before .before in (
       omega (arith, second .put-lists .ensures .0, first .put .ensures .0),
-      simp (second .put-lists .ensures .1, first .put .ensures .1, first .before .before .header .ensures)
-          (laid-join _ _ _ 1 _ _ (split-length 1 _) (first .put .ensures .0)),
+      laid-two _ _ 1 _ _ _ (split-length 1 _) (first .put .ensures .0)
+          (rw (first .before .before .header .ensures) at (first .put .ensures .1)) (second .put-lists .ensures .1),
     )
 
 pub put-spec : {M : Type 1} → statement M

@@ -1,10 +1,9 @@
 -- `superframe::SuperframeSpecification::put` meets its contract: two stores side by side are one.
 -- Assumes nothing.
-use mathlib.Core.Path.{_∙_}
 use native.Mathlib.Omega.{arith}
 use borrow.Author.Needs.{needs}
 use Rattle.octets.proofs.Little.{split-length}
-use Rattle.octets.proofs.Buffer.{laid-join}
+use Rattle.beacon_part.proofs.Buffer.{laid-two}
 use Rattle.superframe.specs.Superframe.{superframeBytes}
 use Rattle.superframe.proofs.SuperframeSpecification.put.Statement.{statement}
 use Rattle.superframe.proofs.SuperframeSpecification.put.Tie as tie
@@ -16,8 +15,8 @@ returns c =
     let first = second .before .before .before .before in
     let bytes = first .before .before in (
       omega (arith, first .put .ensures .0, second .put2 .ensures .0),
-      simp (second .put2 .ensures .1, first .put .ensures .1, bytes .rest .ensures, bytes .before .orders .ensures)
-          (laid-join _ _ _ 1 _ _ (split-length 1 _) (first .put .ensures .0)),
+      laid-two _ _ 1 _ _ _ (split-length 1 _) (first .put .ensures .0)
+          (rw (bytes .before .orders .ensures) at (first .put .ensures .1)) (rw (bytes .rest .ensures) at (second .put2 .ensures .1)),
     )
 
 pub put-spec : {M : Type 1} → statement M

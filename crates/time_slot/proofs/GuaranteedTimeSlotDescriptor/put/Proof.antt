@@ -3,7 +3,7 @@
 use native.Mathlib.Omega.{arith}
 use borrow.Author.Needs.{needs}
 use Rattle.octets.proofs.Little.{split-length}
-use Rattle.octets.proofs.Buffer.{laid-join}
+use Rattle.beacon_part.proofs.Buffer.{laid-two}
 use Rattle.time_slot.specs.Descriptor.{descriptorBytes}
 use Rattle.time_slot.proofs.Descriptor.{fitting}
 use Rattle.time_slot.proofs.GuaranteedTimeSlotDescriptor.put.Statement.{statement}
@@ -21,7 +21,7 @@ returns c =
     let second = c .before .before in
     let first = second .before .before .before .before in (
       omega (arith, first .put .ensures .0, second .put2 .ensures .0),
-      simp (second .put2 .ensures .1, first .put .ensures .1) (laid-join _ _ _ 2 _ _ (split-length 2 _) (first .put .ensures .0)),
+      laid-two _ _ 2 _ _ _ (split-length 2 _) (first .put .ensures .0) (first .put .ensures .1) (second .put2 .ensures .1),
     )
 
 pub put-spec : {M : Type 1} → statement M
