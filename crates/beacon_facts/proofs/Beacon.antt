@@ -28,6 +28,7 @@ use Rattle.beacon.proofs.Content.{fitting}
 use Rattle.beacon_facts.specs.Cleared.{beaconCleared}
 use Rattle.beacon_facts.specs.Formats.{beacon}
 use Rattle.beacon_facts.proofs.Format.{Laws}
+use Rattle.beacon_facts.proofs.Listed.{superframe-listed, time-slots-listed, pending-listed, beacon-listed}
 use Rattle.beacon_facts.proofs.Places.{over, past, past-length}
 use Rattle.beacon_facts.proofs.Superframe.{superframe-fits, superframe-again, superframe-more, superframe-back, superframe-accepts, superframe-laws}
 use Rattle.beacon_facts.proofs.TimeSlots.{time-slots-fit, time-slots-same, time-slots-typed, time-slots-again, count-more, time-slots-more, count-stored, time-slots-back, time-slots-length, time-slots-bytes, time-slots-reset-fits, time-slots-settled, time-slots-accepts}
@@ -115,9 +116,17 @@ module _ (s : List ℕ) (at : ℕ) where
     beacon-size = refl
 
     beacon-again : Bytes s → beaconBytes (beaconIn s at) ≡ beaconCleared s at
-    unfolding beaconBytes beaconIn beaconCleared
+    unfolding beaconBytes beaconIn
     beacon-again b =
-        rw (superframe-again s at b (found .superframe), time-slots-again s (at + 2) slots-there b, pending-again s (pendingPlace s at) (found .pending) b)
+        rw (
+          superframe-again s at b (found .superframe),
+          superframe-listed s at (found .superframe),
+          time-slots-again s (at + 2) slots-there b,
+          time-slots-listed s (at + 2) slots-there,
+          pending-again s (pendingPlace s at) (found .pending) b,
+          pending-listed s (pendingPlace s at) (found .pending),
+        )
+        (beacon-listed s at (all-found found))
 
     beacon-typed : Bytes s → beacon .Typed (beaconIn s at)
     unfolding beaconIn

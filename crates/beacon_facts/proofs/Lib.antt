@@ -1,5 +1,6 @@
 pub mod Format
 pub mod Places
+pub mod Listed
 pub mod Each
 pub mod Superframe
 pub mod Descriptor

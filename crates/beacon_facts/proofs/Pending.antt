@@ -25,9 +25,9 @@ use Rattle.pending.specs.declared.PendingRead.{PendingRead}
 use Rattle.pending.specs.Addresses.{shortAt, extendedAt, emptyShort, emptyExtended, shortsIn, extendedsIn, shortBytes, extendedBytes}
 use Rattle.pending.specs.Pending.{shortCountIn, extendedCountIn, pendingIn, pendingLengthIn, readPending, pendingHeader, pendingBytes, pendingSize, pendingTooLarge}
 use Rattle.pending.proofs.Pending.{fitting, pending-read}
-use Rattle.beacon_facts.specs.Cleared.{pendingCleared}
 use Rattle.beacon_facts.specs.Formats.{pending, Seven, PendingTyped, pendingReset}
 use Rattle.beacon_facts.proofs.Format.{Laws}
+use Rattle.beacon_facts.proofs.Listed.{pendingListed, pending-listed}
 use Rattle.beacon_facts.proofs.Places.{split-one, byte-small, over, past, past-length, number-first}
 use Rattle.beacon_facts.proofs.Each.{reset-in-use, entries-again, entry-place, entry-at, each-bytes, seven-reset, seven-all}
 
@@ -210,8 +210,8 @@ module _ (s : List ℕ) (at : ℕ) where
     unfolding pendingIn
     pending-typed b = (shorts-typed s (at + 1) shortCount b (omega arith), extendeds-typed s (at + 1 + 2 * shortCount) extendedCount b (omega arith))
 
-    pub pending-again : Bytes s → pendingBytes (pendingIn s at) ≡ pendingCleared s at
-    unfolding pendingBytes pendingIn pendingCleared
+    pub pending-again : Bytes s → pendingBytes (pendingIn s at) ≡ pendingListed s at
+    unfolding pendingBytes pendingIn pendingListed
     pending-again b =
         let h = byte-small s at b (omega arith) in
         rw (
@@ -251,7 +251,7 @@ pending-laws =
             same = pending-same s at;
             size = pending-size s at;
             within = found .1;
-            written = pending-again s at (found .1) b;
+            written = pending-again s at (found .1) b ∙ pending-listed s at (found .1);
             behind = λ t.
                 pending-accepts (s ++ t) at (rw (counts-more s at (found .1) t, length-append s t) (omega (arith, found .1)))
                 ∙ rw (pending-more s at (found .1) t, counts-more s at (found .1) t);

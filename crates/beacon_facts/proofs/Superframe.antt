@@ -19,9 +19,9 @@ use Rattle.superframe.specs.Orders.{beaconOrderOf, beaconOrderBits, superframeO
 use Rattle.superframe.specs.Superframe.{superframeIn, readSuperframe, ordersByte, restByte, superframeBytes, superframeTooLarge}
 use Rattle.superframe.proofs.Orders.{beacon-order-back, beacon-order-again, superframe-order-back, superframe-order-again}
 use Rattle.superframe.proofs.Superframe.{superframe-length, fitting, superframe-read}
-use Rattle.beacon_facts.specs.Cleared.{superframeCleared}
 use Rattle.beacon_facts.specs.Formats.{superframe}
 use Rattle.beacon_facts.proofs.Format.{Laws}
+use Rattle.beacon_facts.proofs.Listed.{superframeListed, superframe-listed}
 use Rattle.beacon_facts.proofs.Places.{split-one, byte-small, number-first, number-second}
 
 -- each byte, taken apart and put together again
@@ -39,8 +39,8 @@ module _ (s : List ℕ) (at : ℕ) where
       let b = number s (at + 1) 1 in
       simp (beacon-order-again (a % 16) (omega arith) .1, superframe-order-again (bits a 4 4) (omega arith) .1, le-ltb 15 (b % 16) (omega arith))
 
-  pub superframe-again : Bytes s → 2 ≤ length s - at → superframeBytes (superframeIn s at) ≡ superframeCleared s at
-  unfolding superframeBytes superframeIn superframeCleared
+  pub superframe-again : Bytes s → 2 ≤ length s - at → superframeBytes (superframeIn s at) ≡ superframeListed s at
+  unfolding superframeBytes superframeIn superframeListed
   superframe-again b h =
       let a = byte-small s at b (omega arith) in
       let c = byte-small s (at + 1) b (omega arith) in
@@ -106,7 +106,7 @@ superframe-laws =
             same = refl;
             size = refl;
             within = there .1;
-            written = superframe-again s at b (there .1);
+            written = superframe-again s at b (there .1) ∙ superframe-listed s at (there .1);
             behind = λ t. superframe-accepts (s ++ t) at (rw (length-append s t) (omega (arith, there .1))) ∙ ap (λ (x : SuperframeSpecification). superframe .accepts x 2) (superframe-more s at t (there .1));
           });
       bytes = λ x. superframe-bytes x;

@@ -29,9 +29,9 @@ use Rattle.time_slots.specs.declared.GuaranteedTimeSlotInformation.{GuaranteedT
 use Rattle.time_slots.specs.declared.TimeSlotsRead.{TimeSlotsRead}
 use Rattle.time_slots.specs.TimeSlots.{slotsLength, slotsDemand, slotAt, slotsIn, slotCountIn, timeSlotsIn, timeSlotsLengthIn, readTimeSlots, directionsOf, listBytes, timeSlotsHeader, timeSlotsBytes, timeSlotsSize, timeSlotsTooLarge}
 use Rattle.time_slots.proofs.TimeSlots.{length-some, demand-enough, direction-small, directions-small, list-some, list-length, fitting, time-slots-read}
-use Rattle.beacon_facts.specs.Cleared.{listCleared, timeSlotsCleared}
 use Rattle.beacon_facts.specs.Formats.{timeSlots, DescriptorTyped, TimeSlotsTyped, timeSlotsReset}
 use Rattle.beacon_facts.proofs.Format.{Laws}
+use Rattle.beacon_facts.proofs.Listed.{listListed, timeSlotsListed, time-slots-listed}
 use Rattle.beacon_facts.proofs.Places.{split-one, byte-small, past, past-length, number-first}
 use Rattle.beacon_facts.proofs.Each.{span, in-use, reset-in-use, span-fails, entries-again, entry-place, entry-at, each-bytes, seven-reset, seven-all}
 use Rattle.beacon_facts.proofs.Descriptor.{descriptor-fits, descriptor-again, descriptor-more, descriptor-typed, descriptor-back, descriptor-bytes}
@@ -97,8 +97,8 @@ module _ (s : List ℕ) (at : ℕ) where
       unfolding slotAt
       slot-typed k h = descriptor-typed s (at + 1 + 3 * k) _ b (omega arith)
 
-  list-again : (n : ℕ) → n ≤ 7 → Bytes s → at + slotsLength n ≤ length s → listBytes (take n (slotsIn s at n)) ≡ listCleared n s at
-  unfolding listCleared listBytes
+  list-again : (n : ℕ) → n ≤ 7 → Bytes s → at + slotsLength n ≤ length s → listBytes (take n (slotsIn s at n)) ≡ listListed n s at
+  unfolding listListed listBytes
   list-again zero few b there = refl
   list-again (suc k) few b there =
       let n = suc k in
@@ -246,8 +246,8 @@ module _ (s : List ℕ) (at : ℕ) where
           (λ k h. slot-typed s (at + 1) (slotCountIn s at) count-few b (omega (arith, list-there, length-some (slotCountIn s at) (λ e. absurd (omega arith)))) k h),
     )
 
-    pub time-slots-again : Bytes s → timeSlotsBytes (timeSlotsIn s at) ≡ timeSlotsCleared s at
-    unfolding timeSlotsBytes timeSlotsIn timeSlotsCleared
+    pub time-slots-again : Bytes s → timeSlotsBytes (timeSlotsIn s at) ≡ timeSlotsListed s at
+    unfolding timeSlotsBytes timeSlotsIn timeSlotsListed
     time-slots-again b =
         let h = byte-small s at b (omega arith) in
         rw (
@@ -307,7 +307,7 @@ time-slots-laws =
             same = time-slots-same s at;
             size = size-in s at;
             within = there;
-            written = time-slots-again s at there b;
+            written = time-slots-again s at there b ∙ time-slots-listed s at there;
             behind = λ t.
                 time-slots-accepts (s ++ t) at (rw (length-append s t, count-more s at there t) (omega (arith, found .1)))
                 ∙ rw (time-slots-more s at there t, count-more s at there t);

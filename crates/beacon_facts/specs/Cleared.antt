@@ -1,37 +1,45 @@
--- The bytes of each part at a place as they stand there, but for the bits that writing clears. Document 01, "Bits that writing clears": "byte 1
--- bit 5; GTS header bits 3-6; direction bits n to 7 where n > 0; pending header bits 3 and 7. No others".
-use Prim.Native.Nat.{ℕ, zero, suc, _+_, _-_, _*_}
-use mathlib.Core.List.{List, [], _∷_, _++_}
-use lib.ListN.{take, drop}
+-- The bytes that were read, but for the bits that writing clears. Document 01, "Bits that writing clears": "byte 1 bit 5; GTS header bits 3-6;
+-- direction bits n to 7 where n > 0; pending header bits 3 and 7. No others".
+use Prim.Native.Nat.{ℕ, zero, suc, _+_, _-_}
+use mathlib.Core.List.{List}
+use lib.ListN.{getD, set, take, drop}
 use Rattle.octets.specs.Bits.{clear}
-use Rattle.octets.specs.Little.{number}
-use Rattle.time_slots.specs.TimeSlots.{slotCountIn}
-use Rattle.pending.specs.Pending.{addressesLength, shortCountIn, extendedCountIn}
-use Rattle.beacon.specs.Beacon.{pendingPlace}
+use Rattle.time_slots.specs.TimeSlots.{slotCountIn, timeSlotsLengthIn}
+use Rattle.pending.specs.Pending.{pendingLengthIn}
+use Rattle.beacon.specs.Beacon.{beaconLengthIn}
 
--- the byte at a place, and the n bytes from it on
-abbrev pub byte : List ℕ → ℕ → ℕ
-byte s at = number s at 1
-
+-- the n bytes from a place on
 abbrev pub part : List ℕ → ℕ → ℕ → List ℕ
 part s at n = take n (drop at s)
 
+-- with count bits of byte i cleared, from bit b on
+abbrev pub clearAt : ℕ → ℕ → ℕ → List ℕ → List ℕ
+clearAt i b count l = set l i (clear b count (getD l i 0))
+
+-- with the bits n to 7 of the direction byte i cleared, where n > 0
+abbrev pub clearDirections : ℕ → ℕ → List ℕ → List ℕ
+clearDirections zero i l = l
+clearDirections (suc k) i l = clearAt i (suc k) (8 - suc k) l
+
 unfoldable pub superframeCleared : List ℕ → ℕ → List ℕ
-superframeCleared s at = byte s at ∷ clear 5 1 (byte s (at + 1)) ∷ []
+superframeCleared s at = clearAt 1 5 1 (part s at 2)
 
 unfoldable pub descriptorCleared : List ℕ → ℕ → List ℕ
 descriptorCleared s at = part s at 3
 
--- what follows a GTS header: for a count n above 0, the direction byte and the descriptors
-unfoldable pub listCleared : ℕ → List ℕ → ℕ → List ℕ
-listCleared zero s at = []
-listCleared (suc k) s at = clear (suc k) (8 - suc k) (byte s at) ∷ part s (at + 1) (3 * suc k)
-
 unfoldable pub timeSlotsCleared : List ℕ → ℕ → List ℕ
-timeSlotsCleared s at = clear 3 4 (byte s at) ∷ listCleared (slotCountIn s at) s (at + 1)
+timeSlotsCleared s at = clearDirections (slotCountIn s at) 1 (clearAt 0 3 4 (part s at (timeSlotsLengthIn s at)))
 
 unfoldable pub pendingCleared : List ℕ → ℕ → List ℕ
-pendingCleared s at = clear 3 1 (clear 7 1 (byte s at)) ∷ part s (at + 1) (addressesLength (shortCountIn s at) (extendedCountIn s at))
+pendingCleared s at = clearAt 0 3 1 (clearAt 0 7 1 (part s at (pendingLengthIn s at)))
 
+-- of the whole: byte 1 of the superframe specification, the GTS header, its direction byte and the pending header
 unfoldable pub beaconCleared : List ℕ → ℕ → List ℕ
-beaconCleared s at = superframeCleared s at ++ (timeSlotsCleared s (at + 2) ++ pendingCleared s (pendingPlace s at))
+beaconCleared s at =
+    let header = 2 + timeSlotsLengthIn s (at + 2) in
+    clearAt header 3 1
+    (clearAt header 7 1
+    (clearDirections (slotCountIn s (at + 2)) 3
+    (clearAt 2 3 4
+    (clearAt 1 5 1
+    (part s at (beaconLengthIn s at))))))

@@ -1,5 +1,6 @@
 // The pending addresses of a beacon, of devices for which the coordinator holds messages: a header with two counts, then the short addresses
 // and then the extended ones.
+// The functions that ask something (`requires`) are building blocks of this project's readers and writers, which measure first.
 ghost use mathlib.Core.Path.{_≡_};
 ghost use mathlib.Core.Bool.{false};
 ghost use mathlib.Core.List.{_++_, flatMap};

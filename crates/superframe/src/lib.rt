@@ -1,5 +1,6 @@
 // The superframe specification: beacon order and superframe order, each a number or the case that 15 stands for, the final slot of the
 // contention access period and three flags, in two bytes.
+// The functions that ask something (`requires`) are building blocks of this project's readers and writers, which measure first.
 ghost use mathlib.Core.Path.{_≡_};
 ghost use mathlib.Core.Bool.{false};
 ghost use Prim.Native.Nat.{_+_, _-_, _≤_};

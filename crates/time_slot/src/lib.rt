@@ -1,4 +1,5 @@
 // One guaranteed time slot (GTS): its direction, and its descriptor of three bytes.
+// The functions that ask something (`requires`) are building blocks of this project's readers and writers, which measure first.
 ghost use mathlib.Core.Path.{_≡_};
 ghost use mathlib.Core.Bool.{false};
 ghost use Prim.Native.Nat.{_+_, _-_, _≤_};

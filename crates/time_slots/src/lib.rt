@@ -1,5 +1,6 @@
 // The GTS information of a beacon: a header with permit and count, and for a count above 0 a byte of directions and the descriptors of the
 // guaranteed time slots.
+// The functions that ask something (`requires`) are building blocks of this project's readers and writers, which measure first.
 ghost use mathlib.Core.Path.{_≡_};
 ghost use mathlib.Core.Bool.{false};
 ghost use mathlib.Core.List.{flatMap};
