@@ -23,11 +23,11 @@ use Rattle.pending.specs.Pending.{shortCountIn, extendedCountIn, pendingIn, pen
 use Rattle.pending.proofs.Pending.{pending-read}
 use Rattle.beacon.specs.declared.Beacon.{Beacon}
 use Rattle.beacon.specs.declared.BeaconRead.{BeaconRead}
-use Rattle.beacon.specs.Beacon.{pendingPlace, beaconOf, beaconIn, beaconLengthIn, beaconRefused, readBeacon, beaconBytes, beaconSize, beaconTooLarge}
+use Rattle.beacon.specs.Beacon.{pendingPlace, beaconOf, beaconIn, beaconLengthIn, beaconRefused, readBeacon, beaconBytes, beaconSize, beaconTooLarge, writeBeacon}
 use Rattle.beacon.proofs.Content.{fitting}
 use Rattle.beacon_facts.specs.Cleared.{beaconCleared}
 use Rattle.beacon_facts.specs.Formats.{beacon}
-use Rattle.beacon_facts.proofs.Format.{Laws}
+use Rattle.beacon_facts.proofs.Format.{Written, Laws}
 use Rattle.beacon_facts.proofs.Listed.{superframe-listed, time-slots-listed, pending-listed, beacon-listed}
 use Rattle.beacon_facts.proofs.Places.{over, past, past-length}
 use Rattle.beacon_facts.proofs.Superframe.{superframe-fits, superframe-again, superframe-more, superframe-back, superframe-accepts, superframe-laws}
@@ -276,9 +276,14 @@ beacon-bytes x =
     (bytes-append (timeSlotsBytes (x .«guaranteed_time_slot_info»)) (pendingBytes (x .«pending_address»))
     (time-slots-bytes (x .«guaranteed_time_slot_info»)) (pending-bytes (x .«pending_address»)))
 
+pub beacon-writes : Written beacon
+unfolding writeBeacon
+beacon-writes x out at = refl
+
 pub beacon-laws : Laws beacon
 beacon-laws =
     record {
+      writes = beacon-writes;
       taken = λ s at x n b e.
           let read = beacon-read s at (ap (λ (r : BeaconRead). r .outcome .number) e) in
           let found = read .1 in

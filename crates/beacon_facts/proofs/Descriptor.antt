@@ -17,11 +17,11 @@ use Rattle.time_slot.specs.declared.Direction.{Direction}
 use Rattle.time_slot.specs.declared.Direction.the-variants.{Receive}
 use Rattle.time_slot.specs.declared.GuaranteedTimeSlotDescriptor.{GuaranteedTimeSlotDescriptor}
 use Rattle.time_slot.specs.declared.DescriptorRead.{DescriptorRead}
-use Rattle.time_slot.specs.Descriptor.{descriptorOf, descriptorIn, readDescriptor, slotByte, descriptorBytes, descriptorTooLarge}
+use Rattle.time_slot.specs.Descriptor.{descriptorOf, descriptorIn, readDescriptor, slotByte, descriptorBytes, descriptorTooLarge, writeDescriptor}
 use Rattle.time_slot.proofs.Descriptor.{descriptor-length, fitting, descriptor-read}
 use Rattle.beacon_facts.specs.Cleared.{descriptorCleared}
 use Rattle.beacon_facts.specs.Formats.{descriptor, DescriptorTyped}
-use Rattle.beacon_facts.proofs.Format.{Laws}
+use Rattle.beacon_facts.proofs.Format.{Written, Laws}
 use Rattle.beacon_facts.proofs.Places.{byte-small, number-first, number-second}
 
 slot-again : (b : ℕ) → b < 256 → b % 16 + 16 * bits b 4 4 ≡ b
@@ -91,10 +91,15 @@ settled : (x : GuaranteedTimeSlotDescriptor) → descriptorBytes (descriptor .re
 unfolding descriptorBytes
 settled x = refl
 
+pub descriptor-writes : Written descriptor
+unfolding writeDescriptor
+descriptor-writes x out at = refl
+
 pub descriptor-laws : Laws descriptor
 unfolding descriptorCleared
 descriptor-laws =
     record {
+      writes = descriptor-writes;
       taken = λ s at x n b e.
           let there = descriptor-read s at (ap (λ (r : DescriptorRead). r .outcome .number) e) in
           let told = sym (there .0) ∙ e in

@@ -8,6 +8,7 @@ use borrow.Author.Tests.{le-ltb}
 use lib.ListN.{length}
 use Rattle.octets.specs.Little.{Bytes}
 use Rattle.octets.proofs.Little.{bytes-append}
+use Rattle.beacon_part.specs.Value.{writeValue}
 use Rattle.beacon_facts.specs.Format.{Format, Rewritten, Returned}
 
 -- what is known of a value that was read
@@ -20,7 +21,12 @@ pub record Taken {X R : Type 0} (F : Format X R) (s : List ℕ) (at : ℕ) (x : 
   pub written : F .bytes x ≡ F .cleared s at
   pub behind : (t : List ℕ) → F .read (s ++ t) at ≡ F .accepts x n
 
+-- eight before one
+abbrev pub Written : {X R : Type 0} → Format X R → Type 0
+Written {X} F = (x : X) (out : List ℕ) (at : ℕ) → F .write x out at ≡ writeValue (F .tooLarge x) out at (F .size x)
+
 pub record Laws {X R : Type 0} (F : Format X R) : Type 0 where
+  pub writes : Written F
   pub taken : (s : List ℕ) (at : ℕ) (x : X) (n : ℕ) → Bytes s → F .read s at ≡ F .accepts x n → Taken F s at x n
   pub bytes : (x : X) → Bytes (F .bytes x)
   pub returned : (x : X) → F .Typed x → F .tooLarge x ≡ false → Returned F x
@@ -35,7 +41,7 @@ module _ {X R : Type 0} (F : Format X R) (laws : Laws F) where
       let k = laws .taken s at x n b e in
       record {
         within = k .within;
-        accepted = λ out to room. rw (k .fits, k .size, le-ltb (length out - to) n room);
+        accepted = λ out to room. rw (laws .writes x out to, k .fits, k .size, le-ltb (length out - to) n room);
         long = laws .returned x (k .typed) (k .fits) .long ∙ k .size;
         written = k .written;
         again = again s at x n k;

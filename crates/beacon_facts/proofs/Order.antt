@@ -6,22 +6,27 @@ use mathlib.Core.Path.{ap, _∙_}
 use Rattle.octets.specs.Part.{ends}
 use Rattle.octets.proofs.Order.{first-map}
 use Rattle.beacon_part.specs.declared.ValueWritten.{ValueWritten}
-use Rattle.beacon_part.specs.declared.ValueWritten.the-variants.{Written, TooLarge, Full}
-use Rattle.beacon_part.specs.Value.{writeValue, valueOutcome}
+use Rattle.beacon_part.specs.declared.ValueWritten.the-variants as Variant
+use Rattle.beacon_part.specs.Value.{valueOutcome}
 use Rattle.superframe.specs.declared.SuperframeRead.{SuperframeRead}
-use Rattle.superframe.specs.Superframe.{readSuperframe, writeSuperframe}
+use Rattle.superframe.specs.Superframe.{readSuperframe}
 use Rattle.time_slot.specs.declared.DescriptorRead.{DescriptorRead}
-use Rattle.time_slot.specs.Descriptor.{readDescriptor, writeDescriptor}
+use Rattle.time_slot.specs.Descriptor.{readDescriptor}
 use Rattle.time_slots.specs.declared.TimeSlotsRead.{TimeSlotsRead}
-use Rattle.time_slots.specs.TimeSlots.{slotsDemand, slotCountIn, timeSlotsRefused, readTimeSlots, writeTimeSlots}
+use Rattle.time_slots.specs.TimeSlots.{slotsDemand, slotCountIn, timeSlotsRefused, readTimeSlots}
 use Rattle.pending.specs.declared.PendingRead.{PendingRead}
-use Rattle.pending.specs.Pending.{pendingLengthIn, pendingRefused, readPending, writePending}
+use Rattle.pending.specs.Pending.{pendingLengthIn, pendingRefused, readPending}
 use Rattle.beacon.specs.declared.BeaconRead.{BeaconRead}
-use Rattle.beacon.specs.Beacon.{beaconLengthIn, beaconRefused, readBeacon, writeBeacon}
+use Rattle.beacon.specs.Beacon.{beaconLengthIn, beaconRefused, readBeacon}
 use Rattle.beacon_facts.specs.Format.{Format}
 use Rattle.beacon_facts.specs.Formats.{superframe, descriptor, timeSlots, pending, beacon}
 use Rattle.beacon_facts.specs.Order.{superframeTests, descriptorTests, timeSlotsTests, pendingTests, beaconTests, Reading, Writing}
-use Rattle.beacon_facts.proofs.Beacon.{whole}
+use Rattle.beacon_facts.proofs.Format.{Written}
+use Rattle.beacon_facts.proofs.Superframe.{superframe-writes}
+use Rattle.beacon_facts.proofs.Descriptor.{descriptor-writes}
+use Rattle.beacon_facts.proofs.TimeSlots.{time-slots-writes}
+use Rattle.beacon_facts.proofs.Pending.{pending-writes}
+use Rattle.beacon_facts.proofs.Beacon.{whole, beacon-writes}
 
 pub superframe-reading : Reading (λ s at. readSuperframe s at .outcome) superframeTests
 unfolding readSuperframe
@@ -47,27 +52,23 @@ beacon-reading s at =
     ap (λ (r : BeaconRead). r .outcome .number) (whole s at)
     ∙ first-map (λ (r : BeaconRead). r .outcome .number) ((ends s at (beaconLengthIn s at), beaconRefused) ∷ []) _
 
--- one definition serves all writers
-any-writing : {X R : Type 0} (F : Format X R) → Writing F (λ x out at. writeValue (F .tooLarge x) out at (F .size x))
-any-writing F x out at =
-    first-map (λ (r : ValueWritten). valueOutcome r .number) ((F .tooLarge x, TooLarge) ∷ (ends out at (F .size x), Full) ∷ []) (Written (F .size x))
+-- one law serves all writers
+any-writing : {X R : Type 0} (F : Format X R) → Written F → Writing F
+any-writing F writes x out at =
+    ap (λ (r : ValueWritten). valueOutcome r .number) (writes x out at)
+    ∙ first-map (λ (r : ValueWritten). valueOutcome r .number) ((F .tooLarge x, Variant.TooLarge) ∷ (ends out at (F .size x), Variant.Full) ∷ []) (Variant.Written (F .size x))
 
-pub superframe-writing : Writing superframe writeSuperframe
-unfolding writeSuperframe
-superframe-writing = any-writing superframe
+pub superframe-writing : Writing superframe
+superframe-writing = any-writing superframe superframe-writes
 
-pub descriptor-writing : Writing descriptor writeDescriptor
-unfolding writeDescriptor
-descriptor-writing = any-writing descriptor
+pub descriptor-writing : Writing descriptor
+descriptor-writing = any-writing descriptor descriptor-writes
 
-pub time-slots-writing : Writing timeSlots writeTimeSlots
-unfolding writeTimeSlots
-time-slots-writing = any-writing timeSlots
+pub time-slots-writing : Writing timeSlots
+time-slots-writing = any-writing timeSlots time-slots-writes
 
-pub pending-writing : Writing pending writePending
-unfolding writePending
-pending-writing = any-writing pending
+pub pending-writing : Writing pending
+pending-writing = any-writing pending pending-writes
 
-pub beacon-writing : Writing beacon writeBeacon
-unfolding writeBeacon
-beacon-writing = any-writing beacon
+pub beacon-writing : Writing beacon
+beacon-writing = any-writing beacon beacon-writes

@@ -23,10 +23,10 @@ use Rattle.beacon_part.proofs.Seven.{seven-length, seven-same, each-length}
 use Rattle.pending.specs.declared.PendingAddress.{PendingAddress}
 use Rattle.pending.specs.declared.PendingRead.{PendingRead}
 use Rattle.pending.specs.Addresses.{shortAt, extendedAt, emptyShort, emptyExtended, shortsIn, extendedsIn, shortBytes, extendedBytes}
-use Rattle.pending.specs.Pending.{shortCountIn, extendedCountIn, pendingIn, pendingLengthIn, readPending, pendingHeader, pendingBytes, pendingSize, pendingTooLarge}
+use Rattle.pending.specs.Pending.{shortCountIn, extendedCountIn, pendingIn, pendingLengthIn, readPending, pendingHeader, pendingBytes, pendingSize, pendingTooLarge, writePending}
 use Rattle.pending.proofs.Pending.{fitting, pending-read}
 use Rattle.beacon_facts.specs.Formats.{pending, Seven, PendingTyped, pendingReset}
-use Rattle.beacon_facts.proofs.Format.{Laws}
+use Rattle.beacon_facts.proofs.Format.{Written, Laws}
 use Rattle.beacon_facts.proofs.Listed.{pendingListed, pending-listed}
 use Rattle.beacon_facts.proofs.Places.{split-one, byte-small, over, past, past-length, number-first}
 use Rattle.beacon_facts.proofs.Each.{reset-in-use, entries-again, entry-place, entry-at, each-bytes, seven-reset, seven-all}
@@ -236,9 +236,14 @@ pub pending-accepts : (s : List ℕ) (at : ℕ) → pendingLengthIn s at ≤ len
 unfolding readPending
 pending-accepts s at h = rw (le-ltb (length s - at) 1 (omega arith), le-ltb (length s - at) (pendingLengthIn s at) h)
 
+pub pending-writes : Written pending
+unfolding writePending
+pending-writes x out at = refl
+
 pub pending-laws : Laws pending
 pending-laws =
     record {
+      writes = pending-writes;
       taken = λ s at x n b e.
           let found = pending-read s at (ap (λ (r : PendingRead). r .outcome .number) e) in
           let told = sym (found .0) ∙ e in

@@ -16,11 +16,11 @@ use Rattle.octets.proofs.Little.{split-length, split-bytes, bytes-append, numbe
 use Rattle.superframe.specs.declared.SuperframeSpecification.{SuperframeSpecification}
 use Rattle.superframe.specs.declared.SuperframeRead.{SuperframeRead}
 use Rattle.superframe.specs.Orders.{beaconOrderOf, beaconOrderBits, superframeOrderOf, superframeOrderBits}
-use Rattle.superframe.specs.Superframe.{superframeIn, readSuperframe, ordersByte, restByte, superframeBytes, superframeTooLarge}
+use Rattle.superframe.specs.Superframe.{superframeIn, readSuperframe, ordersByte, restByte, superframeBytes, superframeTooLarge, writeSuperframe}
 use Rattle.superframe.proofs.Orders.{beacon-order-back, beacon-order-again, superframe-order-back, superframe-order-again}
 use Rattle.superframe.proofs.Superframe.{superframe-length, fitting, superframe-read}
 use Rattle.beacon_facts.specs.Formats.{superframe}
-use Rattle.beacon_facts.proofs.Format.{Laws}
+use Rattle.beacon_facts.proofs.Format.{Written, Laws}
 use Rattle.beacon_facts.proofs.Listed.{superframeListed, superframe-listed}
 use Rattle.beacon_facts.proofs.Places.{split-one, byte-small, number-first, number-second}
 
@@ -91,9 +91,14 @@ pub superframe-accepts : (s : List ℕ) (at : ℕ) → 2 ≤ length s - at → r
 unfolding readSuperframe
 superframe-accepts s at h = rw (le-ltb (length s - at) 2 h)
 
+pub superframe-writes : Written superframe
+unfolding writeSuperframe
+superframe-writes x out at = refl
+
 pub superframe-laws : Laws superframe
 superframe-laws =
     record {
+      writes = superframe-writes;
       taken = λ s at x n b e.
           let there = superframe-read s at (ap (λ (r : SuperframeRead). r .outcome .number) e) in
           let told = sym (there .0) ∙ e in

@@ -27,10 +27,10 @@ use Rattle.time_slot.specs.Descriptor.{emptyDescriptor, descriptorIn, descripto
 use Rattle.time_slot.proofs.Descriptor.{descriptor-length}
 use Rattle.time_slots.specs.declared.GuaranteedTimeSlotInformation.{GuaranteedTimeSlotInformation}
 use Rattle.time_slots.specs.declared.TimeSlotsRead.{TimeSlotsRead}
-use Rattle.time_slots.specs.TimeSlots.{slotsLength, slotsDemand, slotAt, slotsIn, slotCountIn, timeSlotsIn, timeSlotsLengthIn, readTimeSlots, directionsOf, listBytes, timeSlotsHeader, timeSlotsBytes, timeSlotsSize, timeSlotsTooLarge}
+use Rattle.time_slots.specs.TimeSlots.{slotsLength, slotsDemand, slotAt, slotsIn, slotCountIn, timeSlotsIn, timeSlotsLengthIn, readTimeSlots, directionsOf, listBytes, timeSlotsHeader, timeSlotsBytes, timeSlotsSize, timeSlotsTooLarge, writeTimeSlots}
 use Rattle.time_slots.proofs.TimeSlots.{length-some, demand-enough, direction-small, directions-small, list-some, list-length, fitting, time-slots-read}
 use Rattle.beacon_facts.specs.Formats.{timeSlots, DescriptorTyped, TimeSlotsTyped, timeSlotsReset}
-use Rattle.beacon_facts.proofs.Format.{Laws}
+use Rattle.beacon_facts.proofs.Format.{Written, Laws}
 use Rattle.beacon_facts.proofs.Listed.{listListed, timeSlotsListed, time-slots-listed}
 use Rattle.beacon_facts.proofs.Places.{split-one, byte-small, past, past-length, number-first}
 use Rattle.beacon_facts.proofs.Each.{span, in-use, reset-in-use, span-fails, entries-again, entry-place, entry-at, each-bytes, seven-reset, seven-all}
@@ -291,9 +291,14 @@ size-in : (s : List ℕ) (at : ℕ) → timeSlotsSize (timeSlotsIn s at) ≡ tim
 unfolding timeSlotsIn
 size-in s at = refl
 
+pub time-slots-writes : Written timeSlots
+unfolding writeTimeSlots
+time-slots-writes x out at = refl
+
 pub time-slots-laws : Laws timeSlots
 time-slots-laws =
     record {
+      writes = time-slots-writes;
       taken = λ s at x n b e.
           let found = time-slots-read s at (ap (λ (r : TimeSlotsRead). r .outcome .number) e) in
           let told = sym (found .0) ∙ e in

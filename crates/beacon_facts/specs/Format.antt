@@ -5,15 +5,16 @@ use mathlib.Core.List.{List, _++_}
 use mathlib.Core.Path.{_≡_}
 use lib.ListN.{length}
 use Rattle.octets.specs.Little.{Bytes}
+use Rattle.beacon_part.specs.declared.ValueWritten.{ValueWritten}
 use Rattle.beacon_part.specs.declared.ValueWritten.the-variants.{Written}
-use Rattle.beacon_part.specs.Value.{writeValue}
 
 -- the definitions of one part: values X, reader's answers R
 pub record Format (X R : Type 0) : Type 1 where
   -- what reading at a place answers, and the answer that accepts a value and a length
   pub read : List ℕ → ℕ → R
   pub accepts : X → ℕ → R
-  -- refusal 8, the bytes and how many they are
+  -- what writing answers: refusal 8, the bytes and how many they are
+  pub write : X → List ℕ → ℕ → ValueWritten
   pub tooLarge : X → Bool
   pub bytes : X → List ℕ
   pub size : X → ℕ
@@ -31,7 +32,7 @@ pub record Rewritten {X R : Type 0} (F : Format X R) (s : List ℕ) (at : ℕ) (
   -- never more than the input
   pub within : n ≤ length s - at
   -- x is written wherever there is room: as many bytes, those that were read but for the bits cleared
-  pub accepted : (out : List ℕ) (to : ℕ) → n ≤ length out - to → writeValue (F .tooLarge x) out to (F .size x) ≡ Written n
+  pub accepted : (out : List ℕ) (to : ℕ) → n ≤ length out - to → F .write x out to ≡ Written n
   pub long : length (F .bytes x) ≡ n
   pub written : F .bytes x ≡ F .cleared s at
   -- read again, whatever stands before and behind, it is x and as long

@@ -9,21 +9,21 @@ use Rattle.identifiers.specs.declared.ExtendedAddress.{ExtendedAddress}
 use Rattle.beacon_part.specs.Seven.{reset}
 use Rattle.superframe.specs.declared.SuperframeSpecification.{SuperframeSpecification}
 use Rattle.superframe.specs.declared.SuperframeRead.{SuperframeRead}
-use Rattle.superframe.specs.Superframe.{readSuperframe, superframeBytes, superframeTooLarge}
+use Rattle.superframe.specs.Superframe.{readSuperframe, superframeBytes, superframeTooLarge, writeSuperframe}
 use Rattle.time_slot.specs.declared.Direction.the-variants.{Receive}
 use Rattle.time_slot.specs.declared.GuaranteedTimeSlotDescriptor.{GuaranteedTimeSlotDescriptor}
 use Rattle.time_slot.specs.declared.DescriptorRead.{DescriptorRead}
-use Rattle.time_slot.specs.Descriptor.{descriptorOf, emptyDescriptor, readDescriptor, descriptorBytes, descriptorTooLarge}
+use Rattle.time_slot.specs.Descriptor.{descriptorOf, emptyDescriptor, readDescriptor, descriptorBytes, descriptorTooLarge, writeDescriptor}
 use Rattle.time_slots.specs.declared.GuaranteedTimeSlotInformation.{GuaranteedTimeSlotInformation}
 use Rattle.time_slots.specs.declared.TimeSlotsRead.{TimeSlotsRead}
-use Rattle.time_slots.specs.TimeSlots.{slotsLength, slotsDemand, timeSlotsOf, readTimeSlots, timeSlotsBytes, timeSlotsSize, timeSlotsTooLarge}
+use Rattle.time_slots.specs.TimeSlots.{slotsLength, slotsDemand, timeSlotsOf, readTimeSlots, timeSlotsBytes, timeSlotsSize, timeSlotsTooLarge, writeTimeSlots}
 use Rattle.pending.specs.declared.PendingAddress.{PendingAddress}
 use Rattle.pending.specs.declared.PendingRead.{PendingRead}
 use Rattle.pending.specs.Addresses.{emptyShort, emptyExtended}
-use Rattle.pending.specs.Pending.{pendingOf, readPending, pendingBytes, pendingSize, pendingTooLarge}
+use Rattle.pending.specs.Pending.{pendingOf, readPending, pendingBytes, pendingSize, pendingTooLarge, writePending}
 use Rattle.beacon.specs.declared.Beacon.{Beacon}
 use Rattle.beacon.specs.declared.BeaconRead.{BeaconRead}
-use Rattle.beacon.specs.Beacon.{beaconOf, readBeacon, beaconBytes, beaconSize, beaconTooLarge}
+use Rattle.beacon.specs.Beacon.{beaconOf, readBeacon, beaconBytes, beaconSize, beaconTooLarge, writeBeacon}
 use Rattle.beacon_facts.specs.Cleared.{superframeCleared, descriptorCleared, timeSlotsCleared, pendingCleared, beaconCleared}
 use Rattle.beacon_facts.specs.Format.{Format}
 
@@ -32,6 +32,7 @@ superframe =
     record {
       read = readSuperframe;
       accepts = λ x n. record { outcome = accepted n; «superframe_spec» = x };
+      write = writeSuperframe;
       tooLarge = superframeTooLarge;
       bytes = superframeBytes;
       size = λ x. 2;
@@ -53,6 +54,7 @@ descriptor =
     record {
       read = readDescriptor;
       accepts = λ x n. record { outcome = accepted n; slot = x };
+      write = writeDescriptor;
       tooLarge = descriptorTooLarge;
       bytes = descriptorBytes;
       size = λ x. 3;
@@ -77,6 +79,7 @@ timeSlots =
     record {
       read = readTimeSlots;
       accepts = λ x n. record { outcome = accepted n; «guaranteed_time_slot_info» = x };
+      write = writeTimeSlots;
       tooLarge = timeSlotsTooLarge;
       bytes = timeSlotsBytes;
       size = timeSlotsSize;
@@ -101,6 +104,7 @@ pending =
     record {
       read = readPending;
       accepts = λ x n. record { outcome = accepted n; «pending_address» = x };
+      write = writePending;
       tooLarge = pendingTooLarge;
       bytes = pendingBytes;
       size = pendingSize;
@@ -115,6 +119,7 @@ beacon =
     record {
       read = readBeacon;
       accepts = λ x n. record { outcome = accepted n; beacon = x };
+      write = writeBeacon;
       tooLarge = beaconTooLarge;
       bytes = beaconBytes;
       size = beaconSize;

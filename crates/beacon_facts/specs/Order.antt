@@ -7,7 +7,6 @@ use mathlib.Core.Path.{_≡_}
 use Rattle.octets.specs.declared.Outcome.{Outcome}
 use Rattle.octets.specs.Order.{first}
 use Rattle.octets.specs.Part.{ends}
-use Rattle.beacon_part.specs.declared.ValueWritten.{ValueWritten}
 use Rattle.beacon_part.specs.Value.{valueOutcome}
 use Rattle.time_slots.specs.TimeSlots.{slotsDemand, slotCountIn}
 use Rattle.pending.specs.Pending.{pendingLengthIn}
@@ -39,5 +38,5 @@ Reading outcome tests = (s : List ℕ) (at : ℕ) → outcome s at .number ≡ f
 abbrev pub writingTests : {X R : Type 0} → Format X R → X → List ℕ → ℕ → List (Bool × ℕ)
 writingTests F x out at = (F .tooLarge x, 8) ∷ (ends out at (F .size x), 1) ∷ []
 
-abbrev pub Writing : {X R : Type 0} → Format X R → (X → List ℕ → ℕ → ValueWritten) → Type 0
-Writing {X} F write = (x : X) (out : List ℕ) (at : ℕ) → valueOutcome (write x out at) .number ≡ first (writingTests F x out at) 0
+abbrev pub Writing : {X R : Type 0} → Format X R → Type 0
+Writing {X} F = (x : X) (out : List ℕ) (at : ℕ) → valueOutcome (F .write x out at) .number ≡ first (writingTests F x out at) 0
