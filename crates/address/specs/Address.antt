@@ -1,6 +1,5 @@
 -- What an address answers: its PAN id, its mode, and the broadcast form of each mode (document 01, "each broadcast form of the source (all
 -- ones) belongs to its own kind").
-use Prim.Native.Nat.{ℕ}
 use Rattle.frame_control.specs.declared.AddressMode.{AddressMode}
 use Rattle.frame_control.specs.declared.AddressMode.the-variants as Mode
 use Rattle.identifiers.specs.declared.PanId.{PanId}

@@ -11,7 +11,6 @@ use Rattle.identifiers.specs.PanId.{pan}
 use Rattle.identifiers.specs.ShortAddress.{short}
 use Rattle.identifiers.specs.ExtendedAddress.{extended}
 use Rattle.address.specs.Address.{modeOf}
-use Rattle.address.specs.declared.Address.{Address}
 use Rattle.address.specs.declared.Address.the-variants.{Short, Extended}
 use Rattle.address.specs.declared.OptionalAddress.{OptionalAddress}
 use Rattle.address.specs.declared.OptionalAddress.the-variants.{Absent, Present}

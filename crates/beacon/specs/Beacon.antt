@@ -7,8 +7,8 @@ use lib.Dec.{eqb}
 use Rattle.octets.specs.declared.Outcome.{Outcome}
 use Rattle.octets.specs.Order.{first}
 use Rattle.octets.specs.Outcome.{accepted, refused}
-use Rattle.beacon_part.specs.declared.ValueWritten.{ValueWritten}
-use Rattle.beacon_part.specs.Value.{writeValue}
+use Rattle.octets.specs.declared.ValueWritten.{ValueWritten}
+use Rattle.octets.specs.Value.{writeValue}
 use Rattle.superframe.specs.declared.SuperframeSpecification.{SuperframeSpecification}
 use Rattle.superframe.specs.Superframe.{emptySuperframe, superframeIn, readSuperframe, superframeBytes, superframeTooLarge}
 use Rattle.time_slots.specs.declared.GuaranteedTimeSlotInformation.{GuaranteedTimeSlotInformation}

@@ -8,7 +8,7 @@ use borrow.Author.Tests.{le-ltb}
 use lib.ListN.{length}
 use Rattle.octets.specs.Little.{Bytes}
 use Rattle.octets.proofs.Little.{bytes-append}
-use Rattle.beacon_part.specs.Value.{writeValue}
+use Rattle.octets.specs.Value.{writeValue}
 use Rattle.beacon_facts.specs.Format.{Format, Rewritten, Returned}
 
 -- what is known of a value that was read

@@ -9,4 +9,3 @@ pub mod Pending
 pub mod Beacon
 pub mod Trip
 pub mod Order
-pub mod Rows

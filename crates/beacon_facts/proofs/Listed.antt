@@ -8,13 +8,13 @@ use mathlib.Core.List.{List, [], _∷_, _++_, append-assoc}
 use mathlib.Core.Path.{_≡_, refl, sym, _∙_}
 use lib.ListN.{length, getD, set, drop, List·getD-append, length-set, length-drop}
 use lib.Seq.{drop-cons, take-add, drop-drop, length-take-le, set-append-left, getD-append-add}
-use Rattle.octets.specs.Bits.{clear}
+use Rattle.octets.specs.Bits.{clear, clearAt}
 use Rattle.octets.specs.Little.{number}
 use Rattle.octets.proofs.Little.{number-one}
 use Rattle.time_slots.specs.TimeSlots.{slotsLength, slotCountIn, timeSlotsLengthIn}
 use Rattle.pending.specs.Pending.{addressesLength, shortCountIn, extendedCountIn, pendingLengthIn}
 use Rattle.beacon.specs.Beacon.{pendingPlace, beaconLengthIn}
-use Rattle.beacon_facts.specs.Cleared.{part, clearAt, clearDirections, superframeCleared, timeSlotsCleared, pendingCleared, beaconCleared}
+use Rattle.beacon_facts.specs.Cleared.{part, clearDirections, superframeCleared, timeSlotsCleared, pendingCleared, beaconCleared}
 
 -- the byte at a place
 abbrev pub byte : List ℕ → ℕ → ℕ

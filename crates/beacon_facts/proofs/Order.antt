@@ -5,9 +5,9 @@ use mathlib.Core.List.{[], _∷_}
 use mathlib.Core.Path.{ap, _∙_}
 use Rattle.octets.specs.Part.{ends}
 use Rattle.octets.proofs.Order.{first-map}
-use Rattle.beacon_part.specs.declared.ValueWritten.{ValueWritten}
-use Rattle.beacon_part.specs.declared.ValueWritten.the-variants as Variant
-use Rattle.beacon_part.specs.Value.{valueOutcome}
+use Rattle.octets.specs.declared.ValueWritten.{ValueWritten}
+use Rattle.octets.specs.declared.ValueWritten.the-variants as Variant
+use Rattle.octets.specs.Value.{valueOutcome}
 use Rattle.superframe.specs.declared.SuperframeRead.{SuperframeRead}
 use Rattle.superframe.specs.Superframe.{readSuperframe}
 use Rattle.time_slot.specs.declared.DescriptorRead.{DescriptorRead}

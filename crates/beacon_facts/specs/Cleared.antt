@@ -2,8 +2,8 @@
 -- direction bits n to 7 where n > 0; pending header bits 3 and 7. No others".
 use Prim.Native.Nat.{ℕ, zero, suc, _+_, _-_}
 use mathlib.Core.List.{List}
-use lib.ListN.{getD, set, take, drop}
-use Rattle.octets.specs.Bits.{clear}
+use lib.ListN.{take, drop}
+use Rattle.octets.specs.Bits.{clearAt}
 use Rattle.time_slots.specs.TimeSlots.{slotCountIn, timeSlotsLengthIn}
 use Rattle.pending.specs.Pending.{pendingLengthIn}
 use Rattle.beacon.specs.Beacon.{beaconLengthIn}
@@ -11,10 +11,6 @@ use Rattle.beacon.specs.Beacon.{beaconLengthIn}
 -- the n bytes from a place on
 abbrev pub part : List ℕ → ℕ → ℕ → List ℕ
 part s at n = take n (drop at s)
-
--- with count bits of byte i cleared, from bit b on
-abbrev pub clearAt : ℕ → ℕ → ℕ → List ℕ → List ℕ
-clearAt i b count l = set l i (clear b count (getD l i 0))
 
 -- with the bits n to 7 of the direction byte i cleared, where n > 0
 abbrev pub clearDirections : ℕ → ℕ → List ℕ → List ℕ

@@ -5,8 +5,8 @@ use mathlib.Core.List.{List, _++_}
 use mathlib.Core.Path.{_≡_}
 use lib.ListN.{length}
 use Rattle.octets.specs.Little.{Bytes}
-use Rattle.beacon_part.specs.declared.ValueWritten.{ValueWritten}
-use Rattle.beacon_part.specs.declared.ValueWritten.the-variants.{Written}
+use Rattle.octets.specs.declared.ValueWritten.{ValueWritten}
+use Rattle.octets.specs.declared.ValueWritten.the-variants.{Written}
 
 -- the definitions of one part: values X, reader's answers R
 pub record Format (X R : Type 0) : Type 1 where

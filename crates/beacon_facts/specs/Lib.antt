@@ -2,4 +2,3 @@ pub mod Cleared
 pub mod Format
 pub mod Formats
 pub mod Order
-pub mod Rows

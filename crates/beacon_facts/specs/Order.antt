@@ -7,7 +7,7 @@ use mathlib.Core.Path.{_≡_}
 use Rattle.octets.specs.declared.Outcome.{Outcome}
 use Rattle.octets.specs.Order.{first}
 use Rattle.octets.specs.Part.{ends}
-use Rattle.beacon_part.specs.Value.{valueOutcome}
+use Rattle.octets.specs.Value.{valueOutcome}
 use Rattle.time_slots.specs.TimeSlots.{slotsDemand, slotCountIn}
 use Rattle.pending.specs.Pending.{pendingLengthIn}
 use Rattle.beacon.specs.Beacon.{beaconLengthIn}

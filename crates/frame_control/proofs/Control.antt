@@ -1,25 +1,18 @@
 -- The frame control's fields put together are read as those fields, and a field read and put together again has only its bit 7 cleared.
 -- Assumes nothing.
-use Prim.Native.Nat.{ℕ, _+_, _-_, _*_, _/_, _%_, _^_, _<_}
+use Prim.Native.Nat.{ℕ, _+_, _-_, _*_, _%_, _^_, _<_}
 use native.Mathlib.Nat.{mod-eq-of-lt}
 use native.Mathlib.Omega.{arith}
-use mathlib.Core.Logic.{_⊎_}
 use mathlib.Core.Path.{_≡_, refl, sym, ap, _∙_}
-use Rattle.octets.specs.Bits.{bits, bit, bitOf, clear}
+use Rattle.octets.specs.Bits.{bits, bitOf, clear}
 use Rattle.octets.proofs.Order.{cases}
 use Rattle.octets.proofs.Bits.{bit-back, bit-again, bit-small, bits-join}
-use Rattle.frame_control.specs.declared.FrameType.{FrameType}
-use Rattle.frame_control.specs.declared.FrameVersion.{FrameVersion}
-use Rattle.frame_control.specs.declared.AddressMode.{AddressMode}
-use Rattle.frame_control.specs.declared.FrameTypeRead.the-variants as TypeRead
-use Rattle.frame_control.specs.declared.FrameVersionRead.the-variants as VersionRead
-use Rattle.frame_control.specs.declared.AddressModeRead.the-variants as ModeRead
 use Rattle.frame_control.specs.declared.FrameControl.{FrameControl}
 use Rattle.frame_control.specs.declared.FrameControlRefusal.{FrameControlRefusal}
 use Rattle.frame_control.specs.declared.FrameControlRead.the-variants.{Read, Refused}
-use Rattle.frame_control.specs.Types.{typeOf, typeBits}
-use Rattle.frame_control.specs.Versions.{versionOf, versionBits}
-use Rattle.frame_control.specs.Modes.{modeOf, modeBits}
+use Rattle.frame_control.specs.Types.{typeBits}
+use Rattle.frame_control.specs.Versions.{versionBits}
+use Rattle.frame_control.specs.Modes.{modeBits}
 use Rattle.frame_control.specs.Control.{controlOf, controlIn, controlBits, quietControl}
 use Rattle.frame_control.proofs.Known.{type-back, type-again, type-small, version-back, version-again, version-small, mode-back, mode-again, mode-small}
 

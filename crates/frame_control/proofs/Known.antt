@@ -7,15 +7,12 @@ use mathlib.Core.Path.{_≡_, refl}
 use Rattle.octets.proofs.Bits.{find-again}
 use Rattle.frame_control.specs.declared.FrameType.{FrameType}
 use Rattle.frame_control.specs.declared.FrameType.the-variants as Kind
-use Rattle.frame_control.specs.declared.FrameTypeRead.{FrameTypeRead}
 use Rattle.frame_control.specs.declared.FrameTypeRead.the-variants as TypeRead
 use Rattle.frame_control.specs.declared.FrameVersion.{FrameVersion}
 use Rattle.frame_control.specs.declared.FrameVersion.the-variants as Version
-use Rattle.frame_control.specs.declared.FrameVersionRead.{FrameVersionRead}
 use Rattle.frame_control.specs.declared.FrameVersionRead.the-variants as VersionRead
 use Rattle.frame_control.specs.declared.AddressMode.{AddressMode}
 use Rattle.frame_control.specs.declared.AddressMode.the-variants as Mode
-use Rattle.frame_control.specs.declared.AddressModeRead.{AddressModeRead}
 use Rattle.frame_control.specs.declared.AddressModeRead.the-variants as ModeRead
 use Rattle.frame_control.specs.Types.{types, typeOf, typeBits}
 use Rattle.frame_control.specs.Versions.{versions, versionOf, versionBits}

@@ -71,6 +71,7 @@ controlRefusal Refusal.Version = 2
 controlRefusal Refusal.FrameType = 3
 controlRefusal Refusal.AddressMode = 4
 
+-- the field is two bytes
 abbrev pub controlOutcome : FrameControlRead → Outcome
 controlOutcome (Read c) = accepted 2
 controlOutcome (Refused r) = refused (controlRefusal r)

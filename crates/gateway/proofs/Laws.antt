@@ -2,15 +2,15 @@
 -- Assumes nothing.
 use Prim.Native.Nat.{ℕ, _-_, _≤_}
 use native.Mathlib.Omega.{arith}
-use mathlib.Core.Bool.{Bool, true, false, cond}
+use mathlib.Core.Bool.{Bool, false}
 use mathlib.Core.List.{List, [], _∷_, _++_}
 use mathlib.Core.Path.{_≡_, refl, sym, ap, _∙_}
 use borrow.Author.Tests.{ltb-false, eq-eqb, ne-eqb}
-use lib.Dec.{eqb, ltb}
+use lib.Dec.{eqb}
 use lib.ListN.{length, drop}
-use Rattle.octets.specs.Buffer.{laid, after}
+use Rattle.octets.specs.Buffer.{after}
 use Rattle.octets.specs.Little.{Bytes}
-use Rattle.octets.specs.Outcome.{accepted, refused}
+use Rattle.octets.specs.Outcome.{accepted}
 use Rattle.octets.specs.Part.{ends}
 use Rattle.octets.proofs.Buffer.{laid-all}
 use Rattle.octets.proofs.Order.{cases, holds?, none-holds}
@@ -26,13 +26,12 @@ use Rattle.header.specs.Write.{writeHeader, writtenOutcome, headerBytes}
 use Rattle.header.proofs.Laws.{header-length, written-fits}
 use Rattle.header_facts.specs.RoundTrip.{cleared, rewritten}
 use Rattle.header_facts.proofs.RoundTrip.{round-trip}
-use Rattle.beacon_part.specs.declared.ValueWritten.{ValueWritten}
-use Rattle.beacon_part.specs.declared.ValueWritten.the-variants.{Written, TooLarge, Full}
-use Rattle.beacon_part.specs.Value.{writeValue, valueOutcome}
+use Rattle.octets.specs.declared.ValueWritten.{ValueWritten}
+use Rattle.octets.specs.declared.ValueWritten.the-variants.{Written, TooLarge, Full}
+use Rattle.octets.specs.Value.{writeValue, valueOutcome}
 use Rattle.beacon.specs.declared.Beacon.{Beacon}
 use Rattle.beacon.specs.declared.BeaconRead.{BeaconRead}
-use Rattle.beacon.specs.Beacon.{beaconLengthIn, beaconIn, readBeacon, beaconBytes, beaconSize, beaconTooLarge, writeBeacon}
-use Rattle.beacon_facts.specs.Cleared.{beaconCleared}
+use Rattle.beacon.specs.Beacon.{beaconLengthIn, readBeacon, beaconBytes, beaconSize, beaconTooLarge, writeBeacon}
 use Rattle.beacon_facts.specs.Format.{Rewritten}
 use Rattle.beacon_facts.specs.Formats.{beacon}
 use Rattle.beacon_facts.proofs.Beacon.{beacon-read}

@@ -1,8 +1,8 @@
 -- An accepted header taken apart into what each stage of reading found, and put together again from it.
 -- Assumes nothing.
-use Prim.Native.Nat.{ℕ, _+_, _≤_}
+use Prim.Native.Nat.{ℕ, _≤_}
 use native.Mathlib.Omega.{arith}
-use mathlib.Core.Bool.{Bool, true, false, not}
+use mathlib.Core.Bool.{false}
 use mathlib.Core.List.{List}
 use mathlib.Core.Logic.{_⊎_, inl, inr}
 use mathlib.Core.Path.{_≡_, refl, ap, _∙_}
@@ -15,17 +15,15 @@ use Rattle.frame_control.specs.declared.FrameControl.{FrameControl}
 use Rattle.frame_control.specs.declared.FrameControlRefusal.{FrameControlRefusal}
 use Rattle.frame_control.specs.declared.FrameControlRead.{FrameControlRead}
 use Rattle.frame_control.specs.declared.FrameControlRead.the-variants as ControlRead
-use Rattle.frame_control.specs.Control.{controlIn, control?}
-use Rattle.address.specs.Layout.{modeLength}
+use Rattle.frame_control.specs.Control.{controlIn}
 use Rattle.security.specs.declared.OptionalSecurityHeader.{OptionalSecurityHeader}
 use Rattle.header.specs.declared.Header.{Header}
 use Rattle.header.specs.declared.HeaderRefusal.{HeaderRefusal}
-use Rattle.header.specs.declared.HeaderRead.{HeaderRead}
 use Rattle.header.specs.declared.HeaderRead.the-variants.{Read, Refused}
 use Rattle.header.specs.declared.SecurityPart.{SecurityPart}
 use Rattle.header.specs.declared.SecurityPart.the-variants as Part
 use Rattle.header.specs.Record.{headerOf}
-use Rattle.header.specs.Read.{unshared, destinationEnd, sourceEnd, destinationIn, sourceIn, securityPart, refusalOf, readRest, readFields, readHeader}
+use Rattle.header.specs.Read.{unshared, destinationEnd, sourceEnd, destinationIn, sourceIn, securityPart, readRest, readFields, readHeader}
 
 -- what the stages found in s: a frame control, addresses that are there, a security part and the place behind it
 pub record Stages (s : List ℕ) (c : FrameControl) (k : OptionalSecurityHeader) (end : ℕ) : Type 0 where

@@ -1,4 +1,4 @@
--- An accepted header occupies 3 to 37 bytes and never more than the input; a refusal has a number from 1 to 5.
+-- An accepted header occupies 3 to 37 bytes and never more than the input; an answer's number is at most 5.
 -- Assumes nothing.
 use Prim.Native.Nat.{ℕ, _+_, _≤_}
 use native.Mathlib.Omega.{arith}
@@ -27,10 +27,9 @@ use Rattle.header.specs.declared.HeaderRefusal.{HeaderRefusal}
 use Rattle.header.specs.declared.HeaderRefusal.the-variants as Refusal
 use Rattle.header.specs.declared.HeaderRead.{HeaderRead}
 use Rattle.header.specs.declared.HeaderRead.the-variants.{Read, Refused}
-use Rattle.header.specs.declared.SecurityPart.{SecurityPart}
 use Rattle.header.specs.declared.SecurityPart.the-variants as Part
 use Rattle.header.specs.Read.{sourceEnd, behindPlace, securityPart, readHeader, readNumber, readOutcome}
-use Rattle.header.proofs.Apart.{Stages, apart}
+use Rattle.header.proofs.Apart.{apart}
 
 -- lengths of parts
 pan-small : (own : Bool) → panLength own ≤ 2

@@ -32,7 +32,7 @@ secured h = isPresent (h .«auxiliary_security_header»)
 abbrev pub sourceOwn : Header → Bool
 sourceOwn h = not (h .«pan_id_compress»)
 
--- the crate's number: 3, plus 4 or 10 for each address, blind to compression and security
+-- the Rust crate's number: 3, plus 4 or 10 for each address, blind to compression and security
 abbrev pub octetSize : Header → ℕ
 octetSize h = 3 + addressLength true (h .destination) + addressLength true (h .source)
 

@@ -3,7 +3,6 @@ ghost use mathlib.Core.Path.{_≡_};
 ghost use Prim.Native.Nat.{_+_, _≤_};
 ghost use lib.ListN.{length};
 ghost use Rattle.octets.specs.Buffer.{laid, after};
-ghost use Rattle.address.specs.Layout.{modeLength};
 ghost use Rattle.security.specs.Optional.{counterOf};
 ghost use Rattle.header.specs.Record.{secured, addressesEnd, headerLength, octetSize};
 ghost use Rattle.header.specs.Read.{unshared, destinationEnd, sourceEnd, securityPart, refusalOf, readRest, readFields, readHeader, readNumber, readOutcome};
@@ -266,7 +265,7 @@ impl Header {
         security.is_present()
     }
 
-    // The crate's number, blind to compression and security: not the payload's start. `occupied` is.
+    // The Rust crate's number, blind to compression and security. The payload begins behind `occupied` bytes, not behind these.
     pub fn get_octet_size(self) -> usize
         ensures { λ r. ⌜ r ≡ octetSize self ⌝ }
     {

@@ -3,15 +3,15 @@
 use Prim.Native.Nat.{ℕ, suc, _+_, _-_, _*_, _/_, _%_, _^_, _≤_, _<_}
 use native.Mathlib.Nat.{div-one, mul-one}
 use native.Mathlib.Omega.{arith}
-use mathlib.Core.Bool.{Bool, true, false, not}
+use mathlib.Core.Bool.{true, false, not}
 use mathlib.Core.List.{List, [], _∷_, _++_, append-nil}
-use mathlib.Core.Path.{_≡_, refl, sym, ap, _∙_}
-use lib.ListN.{length, getD, take, drop, length-drop}
-use lib.Seq.{take-add, drop-drop, length-take-le}
-use Rattle.octets.specs.Bits.{bits, clear, clearAt}
+use mathlib.Core.Path.{_≡_, sym, ap, _∙_}
+use lib.ListN.{length, getD, take, drop}
+use lib.Seq.{take-add, length-take-le}
+use Rattle.octets.specs.Bits.{clear, clearAt}
 use Rattle.octets.specs.Little.{split, number, Bytes}
 use Rattle.octets.proofs.Bits.{clear-behind}
-use Rattle.octets.proofs.Little.{bytes-at, number-one, number-join, number-again, number-small}
+use Rattle.octets.proofs.Little.{bytes-at, number-one, number-join, number-small}
 use Rattle.octets.proofs.Order.{cases}
 use Rattle.frame_control.specs.declared.FrameControl.{FrameControl}
 use Rattle.frame_control.specs.Control.{controlBits, quietControl}
@@ -21,17 +21,16 @@ use Rattle.address.specs.Address.{modeOf, sharedPan}
 use Rattle.address.specs.Layout.{modeLength}
 use Rattle.address.proofs.Laws.{address-again, address-mode}
 use Rattle.security.specs.declared.OptionalSecurityHeader.{OptionalSecurityHeader}
-use Rattle.security.specs.declared.OptionalSecurityHeader.the-variants.{Absent, Present}
 use Rattle.security.specs.Optional.{isPresent, optionalLength, optionalBytes, counterOf, counterRead}
 use Rattle.security.specs.Security.{lengthIn}
 use Rattle.security.proofs.Laws.{security-length}
 use Rattle.security.proofs.RoundTrip.{round-trip}
 use Rattle.header.specs.declared.Header.{Header}
 use Rattle.header.specs.Record.{addressesEnd, headerLength}
-use Rattle.header.specs.Read.{destinationEnd, sourceEnd, destinationIn, sourceIn}
+use Rattle.header.specs.Read.{destinationEnd, sourceEnd, destinationIn}
 use Rattle.header.specs.Write.{writtenControl, fixedBytes, addressesBytes, headerBytes}
 use Rattle.header.proofs.Apart.{Stages, headerIn}
-use Rattle.header.proofs.Bounds.{Secured, security-found}
+use Rattle.header.proofs.Bounds.{security-found}
 use Rattle.header_facts.specs.RoundTrip.{rewritten, clearControl, cleared}
 
 -- the two bytes of a frame control without its bits 7, 8 and 9

@@ -6,7 +6,7 @@ use mathlib.Core.Bool.{Bool, true, false, not, cond}
 use mathlib.Core.List.{List, [], _++_, append-assoc}
 use mathlib.Core.Path.{_≡_, refl, sym, ap, _∙_}
 use borrow.Author.Tests.{ltb-false}
-use lib.Dec.{ltb, eqb}
+use lib.Dec.{eqb}
 use lib.ListN.{length, length-append}
 use Rattle.octets.specs.Little.{split, number}
 use Rattle.octets.proofs.Little.{split-length, number-back}
@@ -35,9 +35,9 @@ use Rattle.header.specs.declared.HeaderWritten.the-variants.{Written}
 use Rattle.header.specs.declared.SecurityPart.the-variants as Part
 use Rattle.header.specs.Record.{headerOf, secured, sourceOwn, addressesEnd, headerLength}
 use Rattle.header.specs.Read.{unshared, sourceEnd, destinationIn, sourceIn, behindPlace, securityPart, readHeader}
-use Rattle.header.specs.Write.{bothPresent, writeTests, writeHeader, writtenOutcome, writtenControl, fixedBytes, addressesBytes, headerBytes}
-use Rattle.header.proofs.Laws.{fixed-length, addresses-length, header-length}
-use Rattle.header.proofs.Apart.{Stages, headerIn, together}
+use Rattle.header.specs.Write.{bothPresent, writeTests, writeHeader, writtenOutcome, writtenControl, fixedBytes, headerBytes}
+use Rattle.header.proofs.Laws.{fixed-length, header-length}
+use Rattle.header.proofs.Apart.{Stages, together}
 use Rattle.header_facts.specs.RoundTrip.{toldPart, toldHeader, Small, SmallPart}
 
 -- an address with its own PAN id is read as it was

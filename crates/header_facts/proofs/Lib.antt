@@ -2,4 +2,3 @@ pub mod Back
 pub mod Again
 pub mod RoundTrip
 pub mod Order
-pub mod Rows

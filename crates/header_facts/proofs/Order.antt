@@ -10,7 +10,7 @@ use mathlib.Core.Path.{_≡_, refl, sym, ap, _∙_}
 use borrow.Author.Tests.{lt-ltb, le-ltb, ltb-true, ltb-false}
 use lib.Dec.{ltb, eqb}
 use lib.ListN.{length}
-use Rattle.octets.specs.Bits.{bits, bit}
+use Rattle.octets.specs.Bits.{bits}
 use Rattle.octets.specs.Little.{number}
 use Rattle.octets.specs.Order.{first}
 use Rattle.octets.specs.Part.{ends}
@@ -45,7 +45,7 @@ use Rattle.header.specs.Record.{headerLength}
 use Rattle.header.specs.Read.{unshared, destinationEnd, sourceEnd, securityPart, part?, readRest, readFields, readHeader, readOutcome}
 use Rattle.header.specs.Write.{writeHeader, writtenOutcome}
 use Rattle.header.specs.Write as write
-use Rattle.header_facts.specs.Order.{addressSize, securitySize, toEnd, fromEnd, wholeEnd, readTests, writeTests}
+use Rattle.header_facts.specs.Order.{addressSize, securitySize, readTests, writeTests}
 
 -- Writing: the definition is such a list already.
 pub write-in-order : (h : Header) (counter : OptionalCounter) (room : ℕ) → writtenOutcome (writeHeader h counter room) .number ≡ first (writeTests h counter room) 0

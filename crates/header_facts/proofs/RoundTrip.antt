@@ -8,15 +8,13 @@ use mathlib.Core.Path.{_≡_, refl, sym, ap, _∙_}
 use borrow.Author.Tests.{le-ltb}
 use lib.Dec.{ltb}
 use lib.ListN.{length, length-append}
-use Rattle.octets.specs.Little.{number, Bytes}
+use Rattle.octets.specs.Little.{Bytes}
 use Rattle.octets.proofs.Buffer.{laid-all}
 use Rattle.octets.proofs.Little.{number-more, number-small}
 use Rattle.octets.proofs.Order.{cases}
 use Rattle.frame_control.specs.declared.FrameControl.{FrameControl}
-use Rattle.frame_control.specs.declared.AddressMode.{AddressMode}
 use Rattle.frame_control.specs.Control.{controlIn}
 use Rattle.identifiers.specs.PanId.{pan}
-use Rattle.address.specs.declared.Address.the-variants.{Short, Extended}
 use Rattle.address.specs.declared.OptionalAddress.{OptionalAddress}
 use Rattle.address.specs.declared.OptionalAddress.the-variants as Address
 use Rattle.address.specs.Address.{modeOf, sharedPan}
@@ -27,8 +25,7 @@ use Rattle.security.specs.declared.OptionalSecurityHeader.the-variants.{Absent,
 use Rattle.security.specs.Optional.{isPresent, levelTooLarge, missing, counterOf, counterRead}
 use Rattle.security.specs.Security.{lengthIn, securityIn, levelOf}
 use Rattle.security.proofs.Laws.{security-small, counter-small, security-told}
-use Rattle.security.proofs.RoundTrip.{accepted-whole}
-use Rattle.security.proofs.RoundTrip as security
+use Rattle.security.proofs.RoundTrip.{accepted-whole, read-more}
 use Rattle.header.specs.declared.Header.{Header}
 use Rattle.header.specs.declared.HeaderRead.the-variants.{Read}
 use Rattle.header.specs.declared.HeaderWritten.the-variants.{Written}
@@ -38,7 +35,7 @@ use Rattle.header.specs.Read.{unshared, destinationEnd, sourceEnd, destinationI
 use Rattle.header.specs.Write.{bothPresent, lacksAddress, writeHeader, headerBytes}
 use Rattle.header.proofs.Laws.{header-length}
 use Rattle.header.proofs.Apart.{Stages, headerIn, together, apart}
-use Rattle.header.proofs.Bounds.{Secured, security-found}
+use Rattle.header.proofs.Bounds.{security-found, length-bounds}
 use Rattle.header_facts.specs.RoundTrip.{quiet, lost, rewritten, isAbsent, sourceless, RoundTrip, toldPart, SmallPart, Small}
 use Rattle.header_facts.proofs.Again.{length-again, header-again}
 use Rattle.header_facts.proofs.Back.{header-back}
@@ -67,16 +64,15 @@ part-facts s at on k end b e =
     }))
 
 -- bytes behind alter no security part
-part-more : (s t : List ℕ) (at : ℕ) (on : Bool) (k : OptionalSecurityHeader) (end : ℕ) → Bytes s → securityPart s at on ≡ Part.Read k end → securityPart (s ++ t) at on ≡ Part.Read k end
+part-more : (s t : List ℕ) (at : ℕ) (on : Bool) (k : OptionalSecurityHeader) (end : ℕ) → securityPart s at on ≡ Part.Read k end → securityPart (s ++ t) at on ≡ Part.Read k end
 unfolding securityPart
-part-more s t at false k end b e = e
-part-more s t at true k end b e =
+part-more s t at false k end e = e
+part-more s t at true k end e =
     cases (security-found s at true k end e)
     (λ none. absurd (true≢false (none .0)))
     (λ found.
     let x = found .1 in
-    let trip = security.round-trip s at (x .header) (lengthIn s at) b (x .read) in
-    ap (λ r. behindPlace r at) (trip .behind t) ∙ (λ i. Part.Read (sym (x .is) i) (sym (x .ends) i)))
+    ap (λ r. behindPlace r at) (read-more s t at (x .header) (lengthIn s at) (x .read)) ∙ (λ i. Part.Read (sym (x .is) i) (sym (x .ends) i)))
 
 -- no refusal 6 for two addresses, and no refusal 7 with the counter that was read
 both-there : (compress : Bool) (d s : OptionalAddress) → unshared compress (modeOf d) ≡ false → cond compress (isAbsent s) false ≡ false →
@@ -89,6 +85,33 @@ both-there true (Address.Present d) (Address.Present s) e f = refl
 counter-there : (k : OptionalSecurityHeader) → cond (isPresent k) (missing (counterRead k)) false ≡ false
 counter-there Absent = refl
 counter-there (Present k) = refl
+
+-- bytes behind an accepted header alter nothing
+module _ (s : List ℕ) (c : FrameControl) (k : OptionalSecurityHeader) (n : ℕ) (q : Stages s c k n) (more : List ℕ) where
+  destination-more : destinationIn c (s ++ more) ≡ destinationIn c s
+  destination-more = let room = q .addresses in address-more true (pan 0) (c .destination) s more 3 (omega arith)
+
+  source-more : sourceIn c (s ++ more) ≡ sourceIn c s
+  source-more =
+      let own = not (c .«pan_id_compress») in
+      ap (λ (d : OptionalAddress). addressIn own (sharedPan d) (c .source) (s ++ more) (destinationEnd c)) destination-more
+      ∙ address-more own (sharedPan (destinationIn c s)) (c .source) s more (destinationEnd c) (q .addresses)
+
+  stages-more : Stages (s ++ more) c k n
+  stages-more =
+      let longer : length (s ++ more) ≡ length s + length more = length-append s more in
+      record {
+        three = omega (arith, q .three);
+        control = ap controlIn (number-more s more 0 2 (omega (arith, q .three))) ∙ q .control;
+        shared = q .shared;
+        addresses = omega (arith, q .addresses);
+        security = part-more s more (sourceEnd c) (c .security) k n (q .security);
+      }
+
+  behind : readHeader (s ++ more) ≡ Read (headerIn s c k) n
+  behind =
+      together (s ++ more) c k n stages-more
+      ∙ (λ i. Read (headerOf c (number-more s more 2 1 (q .three) i) (destination-more i) (source-more i) k) n)
 
 module _ (s : List ℕ) (c : FrameControl) (k : OptionalSecurityHeader) (n : ℕ) (b : Bytes s) (q : Stages s c k n) where
   abbrev header : Header
@@ -132,46 +155,26 @@ module _ (s : List ℕ) (c : FrameControl) (k : OptionalSecurityHeader) (n : ℕ
   long : length (rewritten header) ≡ n
   long = header-length header counter ∙ length-again s c k n b q
 
-  -- bytes behind alter nothing
-  module _ (more : List ℕ) where
-    destination-more : destinationIn c (s ++ more) ≡ destinationIn c s
-    destination-more = let room = q .addresses in address-more true (pan 0) (c .destination) s more 3 (omega arith)
-
-    source-more : sourceIn c (s ++ more) ≡ sourceIn c s
-    source-more =
-        let own = not (c .«pan_id_compress») in
-        ap (λ (d : OptionalAddress). addressIn own (sharedPan d) (c .source) (s ++ more) (destinationEnd c)) destination-more
-        ∙ address-more own (sharedPan (destinationIn c s)) (c .source) s more (destinationEnd c) (q .addresses)
-
-    stages-more : Stages (s ++ more) c k n
-    stages-more =
-        let longer : length (s ++ more) ≡ length s + length more = length-append s more in
-        record {
-          three = omega (arith, q .three);
-          control = ap controlIn (number-more s more 0 2 (omega (arith, q .three))) ∙ q .control;
-          shared = q .shared;
-          addresses = omega (arith, q .addresses);
-          security = part-more s more (sourceEnd c) (c .security) k n b (q .security);
-        }
-
-    behind : readHeader (s ++ more) ≡ Read header n
-    behind =
-        together (s ++ more) c k n stages-more
-        ∙ (λ i. Read (headerOf c (number-more s more 2 1 (q .three) i) (destination-more i) (source-more i) k) n)
-
   settled : rewritten (lost header) ≡ rewritten header
   unfolding headerBytes
   settled = refl
 
+  once-more : (room : ℕ) → sourceless header ≡ false → n ≤ room → writeHeader (lost header) (counterRead k) room ≡ Written n
+  unfolding writeHeader
+  once-more = accepted
+
   trip : RoundTrip s header n
   trip = record {
+    within = length-bounds s header n (together s c k n q) .2;
+    occupied = length-again s c k n b q;
     accepted = accepted;
     written = header-again s c k n b q;
     long = long;
     buffer = λ out h. laid-all out (rewritten header) n long h;
     again = again;
     settled = settled;
-    behind = behind;
+    once-more = once-more;
+    behind = λ more. behind s c k n q more;
   }
 
 -- Demand 3, whole.
@@ -180,6 +183,8 @@ round-trip s h n b e =
     let q = apart s h n e in
     rw (q .3) at (trip s (q .0) (q .1) n b (q .2))
 
--- bytes behind an accepted header change no answer
-pub unread : (s : List ℕ) (h : Header) (n : ℕ) (more : List ℕ) → Bytes s → readHeader s ≡ Read h n → readHeader (s ++ more) ≡ Read h n
-unread s h n more b e = round-trip s h n b e .behind more
+-- What reading answers does not depend on bytes behind an accepted header.
+pub unread : (s : List ℕ) (h : Header) (n : ℕ) (more : List ℕ) → readHeader s ≡ Read h n → readHeader (s ++ more) ≡ Read h n
+unread s h n more e =
+    let q = apart s h n e in
+    behind s (q .0) (q .1) n (q .2) more ∙ ap (λ (g : Header). Read g n) (q .3)

@@ -1,7 +1,7 @@
 -- Document 01's order of refusals by itself, as plain tests on the bytes and the record, each with its number: the first that holds is given,
 -- and 0 where none does.
 use Prim.Native.Nat.{ℕ, _+_, _%_}
-use mathlib.Core.Bool.{Bool, false, cond, not}
+use mathlib.Core.Bool.{Bool, false, cond}
 use mathlib.Core.List.{List, [], _∷_}
 use lib.Dec.{eqb, ltb}
 use lib.ListN.{length}

@@ -22,7 +22,7 @@ use Rattle.header.specs.Record.{sourceOwn, addressesEnd, headerLength}
 use Rattle.header.specs.Read.{readHeader}
 use Rattle.header.specs.Write.{writeHeader, headerBytes}
 
--- the record but for the two flags that writing loses: `seq_no_suppress` and `ie_present`
+-- the record with the two flags that writing loses, `seq_no_suppress` and `ie_present`, false, and with the source and security part given
 abbrev pub quiet : Header → OptionalAddress → OptionalSecurityHeader → Header
 quiet h source security =
     record {
@@ -65,6 +65,9 @@ sourceless h = cond (h .«pan_id_compress») (isAbsent (h .source)) false
 
 -- what holds of a header h of n bytes that was read from s
 pub record RoundTrip (s : List ℕ) (h : Header) (n : ℕ) : Type 0 where
+  -- it lies in the input, and its record tells how many bytes it occupies
+  pub within : n ≤ length s
+  pub occupied : headerLength h ≡ n
   -- with room, writing it again is accepted, unless it is compressed without a source
   pub accepted : (room : ℕ) → sourceless h ≡ false → n ≤ room → writeHeader h (counterRead (h .«auxiliary_security_header»)) room ≡ Written n
   -- it gives the bytes that were read, but for the listed bits cleared, and as many
@@ -76,6 +79,7 @@ pub record RoundTrip (s : List ℕ) (h : Header) (n : ℕ) : Type 0 where
   pub again : (more : List ℕ) → readHeader (rewritten h ++ more) ≡ Read (lost h) n
   -- writing that once more changes nothing
   pub settled : rewritten (lost h) ≡ rewritten h
+  pub once-more : (room : ℕ) → sourceless h ≡ false → n ≤ room → writeHeader (lost h) (counterRead (h .«auxiliary_security_header»)) room ≡ Written n
   -- bytes added behind the input alter none of this
   pub behind : (more : List ℕ) → readHeader (s ++ more) ≡ Read h n
 

@@ -3,7 +3,7 @@
 -- Assumes nothing.
 use Prim.Native.Nat.{ℕ, _+_, _^_, _≤_, _<_}
 use native.Mathlib.Omega.{arith}
-use mathlib.Core.List.{List, [], _++_, append-assoc}
+use mathlib.Core.List.{List, _++_, append-assoc}
 use mathlib.Core.Path.{_≡_, refl, sym}
 use lib.ListN.{length, take, drop, length-append}
 use lib.Seq.{take-add, drop-drop}
@@ -14,7 +14,6 @@ use Rattle.security_control.specs.declared.KeyIdentifierMode.the-variants as Mo
 use Rattle.key_identifier.specs.declared.KeySource.the-variants.{Short, Long}
 use Rattle.key_identifier.specs.declared.OptionalKeySource.{OptionalKeySource}
 use Rattle.key_identifier.specs.declared.OptionalKeySource.the-variants as Source
-use Rattle.key_identifier.specs.declared.KeyIdentifier.{KeyIdentifier}
 use Rattle.key_identifier.specs.declared.OptionalKeyIdentifier.{OptionalKeyIdentifier}
 use Rattle.key_identifier.specs.declared.OptionalKeyIdentifier.the-variants.{Absent, Present}
 use Rattle.key_identifier.specs.Key.{sourceMode, modeOfKey, keyLength, keyIn, sourceLength, sourceBytes, keyBytes, SmallSource, SmallKey}

@@ -5,11 +5,9 @@ use mathlib.Core.List.{List, [], _++_}
 use Rattle.octets.specs.Little.{number, split}
 use Rattle.security_control.specs.declared.KeyIdentifierMode.{KeyIdentifierMode}
 use Rattle.security_control.specs.declared.KeyIdentifierMode.the-variants as Mode
-use Rattle.key_identifier.specs.declared.KeySource.{KeySource}
 use Rattle.key_identifier.specs.declared.KeySource.the-variants.{Short, Long}
 use Rattle.key_identifier.specs.declared.OptionalKeySource.{OptionalKeySource}
 use Rattle.key_identifier.specs.declared.OptionalKeySource.the-variants as Source
-use Rattle.key_identifier.specs.declared.KeyIdentifier.{KeyIdentifier}
 use Rattle.key_identifier.specs.declared.OptionalKeyIdentifier.{OptionalKeyIdentifier}
 use Rattle.key_identifier.specs.declared.OptionalKeyIdentifier.the-variants.{Absent, Present}
 

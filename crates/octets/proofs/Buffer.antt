@@ -25,6 +25,11 @@ pub laid-none : (l : List ℕ) (at : ℕ) → laid l at [] ≡ l
 unfolding laid
 laid-none l at = refl
 
+-- one byte and then the rest, from the next place on
+pub laid-cons : (l : List ℕ) (at x : ℕ) (b : List ℕ) → laid (set l at x) (at + 1) b ≡ laid l at (x ∷ b)
+unfolding laid
+laid-cons l at x b = rw add-one
+
 -- a store keeps the length
 pub laid-length : (l : List ℕ) (at : ℕ) (b : List ℕ) → length (laid l at b) ≡ length l
 unfolding laid
@@ -40,6 +45,11 @@ laid-append l at (x ∷ a) b =
 -- one store and the next are one
 pub laid-join : (l : List ℕ) (at next n : ℕ) (a b : List ℕ) → length a ≡ n → next ≡ at + n → laid (laid l at a) next b ≡ laid l at (a ++ b)
 laid-join l at next n a b e f = rw (f, sym e) (laid-append l at a b)
+
+-- and so are the buffers that two calls left
+pub laid-two : (l : List ℕ) (at n next : ℕ) (a b : List ℕ) {m r : List ℕ} → length a ≡ n → next ≡ at + n → m ≡ laid l at a → r ≡ laid m next b →
+    r ≡ laid l at (a ++ b)
+laid-two l at n next a b long behind one two = rw (two, one) (laid-join l at next n a b long behind)
 
 -- a store at a place parts the buffer: what lies before, what was stored, what lies behind
 pub laid-parts : (l : List ℕ) (at : ℕ) (b : List ℕ) → at + length b ≤ length l → laid l at b ≡ take at l ++ (b ++ drop (at + length b) l)

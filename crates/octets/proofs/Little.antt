@@ -3,14 +3,13 @@
 -- Assumes nothing.
 use Prim.Native.Nat.{ℕ, zero, suc, _+_, _-_, _*_, _/_, _%_, _^_, _≤_, _<_}
 use native.Mathlib.Nat.{mul-assoc, pow-suc, pow-succ'}
-use native.Mathlib.Numerals.{add-one}
 use native.Mathlib.Omega.{arith}
-use mathlib.Core.List.{List, [], _∷_, _++_, append-assoc}
+use mathlib.Core.List.{List, [], _∷_, _++_}
 use mathlib.Core.Path.{_≡_, refl, sym, ap, _∙_}
 use mir.Syntax.{w8}
 use mir.Val.{Fits}
-use lib.ListN.{length, getD, take, drop, length-append, length-drop}
-use lib.Seq.{drop-at, take-at, length-take-le, drop-append-le, take-append-le, take-add, drop-drop, drop-cons, take-nil, drop-nil}
+use lib.ListN.{length, getD, take, drop, length-drop}
+use lib.Seq.{drop-at, take-at, length-take-le, drop-append-le, take-append-le, take-add, drop-drop, drop-nil}
 use Rattle.octets.specs.Little.{join, split, number, Bytes}
 
 -- bytes are bytes in every part of a list

@@ -1,6 +1,6 @@
 -- Laws of the first test that holds.
 -- Assumes nothing.
-use mathlib.Core.Bool.{Bool, true, false, true≢false}
+use mathlib.Core.Bool.{Bool, true, false, true≢false, _||_}
 use mathlib.Core.List.{List, [], _∷_, map}
 use mathlib.Core.Logic.{_⊎_, inl, inr, ⊎-elim}
 use mathlib.Core.Path.{_≡_, refl, sym, _∙_}
@@ -38,3 +38,8 @@ none-holds accepts ((true, a) ∷ rest) other r e = absurd (true≢false (sym e 
 none-holds accepts ((false, a) ∷ rest) other r e =
     let q = none-holds accepts rest other (r .1) e in
     ((refl, q .0), q .1)
+
+-- where one test or another fails, each fails
+pub neither : (a b : Bool) → (a || b) ≡ false → (a ≡ false) × (b ≡ false)
+neither true b e = (e, absurd (true≢false e))
+neither false b e = (refl, e)

@@ -1,15 +1,13 @@
 -- The payload begins within the frame.
 -- Assumes nothing.
-use Prim.Native.Nat.{ℕ, _+_, _-_, _≤_}
+use Prim.Native.Nat.{ℕ, _-_, _≤_}
 use native.Mathlib.Omega.{arith}
-use mathlib.Core.Bool.{Bool, true, false}
 use mathlib.Core.List.{List}
-use mathlib.Core.Path.{_≡_, refl, sym, ap, _∙_}
-use borrow.Author.Tests.{eq-eqb, ne-eqb, eqb-true, eqb-false}
+use mathlib.Core.Path.{_≡_, refl}
+use borrow.Author.Tests.{eqb-true, eqb-false}
 use lib.Dec.{eqb}
 use lib.ListN.{length, take, drop, length-drop}
 use lib.Seq.{take-all}
-use Rattle.octets.specs.declared.Outcome.{Outcome}
 use Rattle.octets.proofs.Order.{cases, holds?}
 use Rattle.header.specs.declared.HeaderRead.{HeaderRead}
 use Rattle.header.specs.declared.HeaderRead.the-variants.{Read, Refused}
@@ -17,8 +15,7 @@ use Rattle.header.specs.declared.HeaderRefusal.{HeaderRefusal}
 use Rattle.header.specs.declared.HeaderRefusal.the-variants as Refusal
 use Rattle.header.specs.Read.{readHeader, readNumber}
 use Rattle.header.proofs.Bounds.{length-bounds}
-use Rattle.beacon.specs.declared.BeaconRead.{BeaconRead}
-use Rattle.beacon.specs.Beacon.{readBeacon, beaconLengthIn}
+use Rattle.beacon.specs.Beacon.{readBeacon}
 use Rattle.beacon_facts.proofs.Beacon.{beacon-read, all-found}
 use Rattle.payload.specs.Frame.{opens, behindBeacon, frameAfter, readFrame}
 

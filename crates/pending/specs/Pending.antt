@@ -12,8 +12,8 @@ use Rattle.octets.specs.Outcome.{accepted, refused}
 use Rattle.octets.specs.Part.{ends}
 use Rattle.identifiers.specs.declared.ShortAddress.{ShortAddress}
 use Rattle.identifiers.specs.declared.ExtendedAddress.{ExtendedAddress}
-use Rattle.beacon_part.specs.declared.ValueWritten.{ValueWritten}
-use Rattle.beacon_part.specs.Value.{writeValue}
+use Rattle.octets.specs.declared.ValueWritten.{ValueWritten}
+use Rattle.octets.specs.Value.{writeValue}
 use Rattle.pending.specs.declared.PendingAddress.{PendingAddress}
 use Rattle.pending.specs.declared.PendingRead.{PendingRead}
 use Rattle.pending.specs.Addresses.{emptyShort, emptyExtended, shortsIn, extendedsIn, shortBytes, extendedBytes}

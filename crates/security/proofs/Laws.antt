@@ -7,8 +7,7 @@ use native.Mathlib.Omega.{arith}
 use mathlib.Core.Bool.{true, false}
 use mathlib.Core.List.{List, [], _∷_, _++_, append-assoc}
 use mathlib.Core.Path.{_≡_, refl, sym, ap, _∙_}
-use borrow.Author.Tests.{lt-ltb, le-ltb, ltb-false}
-use lib.Dec.{ltb}
+use borrow.Author.Tests.{lt-ltb, le-ltb}
 use lib.ListN.{length, getD, take, drop, length-append, length-drop}
 use lib.Seq.{take-add, drop-drop, getD-drop}
 use Rattle.octets.specs.Bits.{clear, clearAt}
@@ -17,9 +16,8 @@ use Rattle.octets.specs.Part.{ends}
 use Rattle.octets.proofs.Little.{split-length, split-bytes, bytes-append, bytes-drop, number-one, number-back, number-again, number-more, number-small}
 use Rattle.security_control.specs.declared.KeyIdentifierMode.{KeyIdentifierMode}
 use Rattle.security_control.specs.declared.SecurityControl.{SecurityControl}
-use Rattle.security_control.specs.Control.{controlOf, controlIn, controlBits}
+use Rattle.security_control.specs.Control.{controlOf, controlIn}
 use Rattle.security_control.proofs.Control.{control-small, control-back, control-again}
-use Rattle.key_identifier.specs.declared.OptionalKeyIdentifier.{OptionalKeyIdentifier}
 use Rattle.security.specs.declared.AuxiliarySecurityHeader.{AuxiliarySecurityHeader}
 use Rattle.security.specs.declared.OptionalSecurityHeader.{OptionalSecurityHeader}
 use Rattle.security.specs.declared.OptionalSecurityHeader.the-variants.{Absent, Present}

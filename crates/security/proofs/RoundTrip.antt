@@ -42,6 +42,19 @@ accepted-whole s at h n e =
     let p = same (securityIn s at) h (lengthIn s at) n (simp f at e) in
     (omega arith, p .0, p .1))
 
+-- bytes behind it alter nothing
+whole-more : (s more : List ℕ) (at : ℕ) → at + lengthIn s at ≤ length s → readSecurity (s ++ more) at ≡ Read (securityIn s at) (lengthIn s at)
+unfolding readSecurity
+whole-more s more at whole =
+    let there : lengthIn s at ≤ length (s ++ more) - at = rw (length-append s more) (omega arith) in
+    let enough : ends (s ++ more) at (lengthIn s at) ≡ false = le-ltb (length (s ++ more) - at) (lengthIn s at) there in
+    simp (length-more s more at whole, enough, security-more s more at whole)
+
+pub read-more : (s more : List ℕ) (at : ℕ) (h : AuxiliarySecurityHeader) (n : ℕ) → readSecurity s at ≡ Read h n → readSecurity (s ++ more) at ≡ Read h n
+read-more s more at h n e =
+    let q = accepted-whole s at h n e in
+    whole-more s more at (q .0) ∙ (λ i. Read (q .1 i) (q .2 i))
+
 module _ (s : List ℕ) (at : ℕ) (b : Bytes s) (whole : at + lengthIn s at ≤ length s) where
   abbrev header : AuxiliarySecurityHeader
   header = securityIn s at
@@ -66,13 +79,6 @@ module _ (s : List ℕ) (at : ℕ) (b : Bytes s) (whole : at + lengthIn s at ≤
       let q = accepted-whole bytes 0 header (lengthIn s at) read in
       sym (security-again bytes 0 (security-bytes header (header .«frame_counter»)) (q .0)) ∙ ap rewritten (q .1)
 
-  behind : (more : List ℕ) → readSecurity (s ++ more) at ≡ Read header (lengthIn s at)
-  unfolding readSecurity
-  behind more =
-      let enough : ends (s ++ more) at (lengthIn s at) ≡ false =
-      le-ltb (length (s ++ more) - at) (lengthIn s at) (rw (length-append s more) (omega arith)) in
-      simp (length-more s more at whole, enough, security-more s more at whole)
-
   trip : RoundTrip s at header (lengthIn s at)
   trip = record {
     accepted = accepted;
@@ -80,7 +86,7 @@ module _ (s : List ℕ) (at : ℕ) (b : Bytes s) (whole : at + lengthIn s at ≤
     long = security-length header (header .«frame_counter») ∙ length-again s at b whole;
     again = again;
     settled = settled;
-    behind = behind;
+    behind = λ more. whole-more s more at whole;
   }
 
 pub round-trip : (s : List ℕ) (at : ℕ) (h : AuxiliarySecurityHeader) (n : ℕ) → Bytes s → readSecurity s at ≡ Read h n → RoundTrip s at h n

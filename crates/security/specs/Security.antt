@@ -1,10 +1,9 @@
 -- The auxiliary security header, document 01, "Header layout" (IEEE 802.15.4-2011, 7.4): control (1), frame counter (4), key identifier.
-use Prim.Native.Nat.{ℕ, _+_, _^_, _<_}
+use Prim.Native.Nat.{ℕ, _+_, _<_}
 use mathlib.Core.List.{List, _++_}
-use Rattle.octets.specs.Bits.{bits}
 use Rattle.octets.specs.Little.{number, split}
 use Rattle.security_control.specs.declared.SecurityControl.{SecurityControl}
-use Rattle.security_control.specs.Control.{keyModeOf, controlOf, controlIn, controlBits}
+use Rattle.security_control.specs.Control.{controlOf, controlIn, controlBits}
 use Rattle.key_identifier.specs.Key.{modeOfKey, keyLength, keyIn, keyBytes, SmallKey}
 use Rattle.key_identifier.specs.declared.OptionalKeyIdentifier.{OptionalKeyIdentifier}
 use Rattle.security.specs.declared.AuxiliarySecurityHeader.{AuxiliarySecurityHeader}

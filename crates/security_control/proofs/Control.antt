@@ -2,13 +2,13 @@
 -- Assumes nothing.
 use Prim.Native.Nat.{ℕ, zero, suc, _+_, _*_, _%_, _<_}
 use native.Mathlib.Omega.{arith}
-use mathlib.Core.Path.{_≡_, refl, _∙_}
+use mathlib.Core.Path.{_≡_, refl}
 use Rattle.octets.specs.Bits.{bits, clear}
 use Rattle.octets.proofs.Each.{same}
 use Rattle.security_control.specs.declared.KeyIdentifierMode.{KeyIdentifierMode}
 use Rattle.security_control.specs.declared.KeyIdentifierMode.the-variants.{None, KeyIndex, KeySource4, KeySource8}
 use Rattle.security_control.specs.declared.SecurityControl.{SecurityControl}
-use Rattle.security_control.specs.Control.{keyModeOf, keyModeBits, controlOf, controlIn, controlBits}
+use Rattle.security_control.specs.Control.{keyModeOf, keyModeBits, controlIn, controlBits}
 
 pub mode-back : (m : KeyIdentifierMode) → keyModeOf (keyModeBits m) ≡ m
 unfolding keyModeOf

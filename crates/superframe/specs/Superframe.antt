@@ -9,8 +9,8 @@ use Rattle.octets.specs.Little.{number, split}
 use Rattle.octets.specs.Order.{first}
 use Rattle.octets.specs.Outcome.{accepted, refused}
 use Rattle.octets.specs.Part.{ends}
-use Rattle.beacon_part.specs.declared.ValueWritten.{ValueWritten}
-use Rattle.beacon_part.specs.Value.{writeValue}
+use Rattle.octets.specs.declared.ValueWritten.{ValueWritten}
+use Rattle.octets.specs.Value.{writeValue}
 use Rattle.superframe.specs.declared.BeaconOrder.the-variants.{OnDemand}
 use Rattle.superframe.specs.declared.SuperframeOrder.the-variants.{Inactive}
 use Rattle.superframe.specs.declared.SuperframeSpecification.{SuperframeSpecification}

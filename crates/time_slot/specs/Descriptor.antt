@@ -11,8 +11,8 @@ use Rattle.octets.specs.Outcome.{accepted, refused}
 use Rattle.octets.specs.Part.{ends}
 use Rattle.identifiers.specs.declared.ShortAddress.{ShortAddress}
 use Rattle.identifiers.specs.ShortAddress.{short}
-use Rattle.beacon_part.specs.declared.ValueWritten.{ValueWritten}
-use Rattle.beacon_part.specs.Value.{writeValue}
+use Rattle.octets.specs.declared.ValueWritten.{ValueWritten}
+use Rattle.octets.specs.Value.{writeValue}
 use Rattle.time_slot.specs.declared.Direction.{Direction}
 use Rattle.time_slot.specs.declared.Direction.the-variants.{Receive}
 use Rattle.time_slot.specs.declared.GuaranteedTimeSlotDescriptor.{GuaranteedTimeSlotDescriptor}

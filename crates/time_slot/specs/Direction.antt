@@ -1,4 +1,5 @@
--- The direction of a guaranteed time slot: document 01, "set is Transmit" (IEEE 802.15.4-2011, 5.2.2.1.4).
+-- The direction of a guaranteed time slot: document 01, "set is Transmit", as in the Rust (IEEE 802.15.4-2011, 5.2.2.1.4, names it the other way
+-- round: docs/DIFFERENCES.md).
 use Prim.Native.Nat.{ℕ}
 use mathlib.Core.Bool.{cond}
 use lib.Dec.{eqb}

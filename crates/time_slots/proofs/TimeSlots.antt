@@ -12,11 +12,10 @@ use lib.Pow.{pow-mono}
 use Rattle.octets.specs.Little.{split}
 use Rattle.octets.specs.Outcome.{accepted}
 use Rattle.octets.specs.Part.{ends}
-use Rattle.octets.proofs.Order.{cases, holds?}
+use Rattle.octets.proofs.Order.{cases, holds?, neither}
 use Rattle.octets.proofs.Little.{split-length}
-use Rattle.beacon_part.specs.Seven.{some}
-use Rattle.beacon_part.proofs.Value.{neither}
-use Rattle.beacon_part.proofs.Seven.{rest-next, each-length}
+use Rattle.seven.specs.Seven.{some}
+use Rattle.seven.proofs.Seven.{rest-next, each-length}
 use Rattle.time_slot.specs.declared.Direction.{Direction}
 use Rattle.time_slot.specs.declared.Direction.the-variants.{Receive, Transmit}
 use Rattle.time_slot.specs.declared.GuaranteedTimeSlotDescriptor.{GuaranteedTimeSlotDescriptor}

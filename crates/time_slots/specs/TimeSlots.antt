@@ -10,9 +10,9 @@ use Rattle.octets.specs.Little.{number, split}
 use Rattle.octets.specs.Order.{first}
 use Rattle.octets.specs.Outcome.{accepted, refused}
 use Rattle.octets.specs.Part.{ends}
-use Rattle.beacon_part.specs.declared.ValueWritten.{ValueWritten}
-use Rattle.beacon_part.specs.Value.{writeValue}
-use Rattle.beacon_part.specs.Seven.{seven, some}
+use Rattle.octets.specs.declared.ValueWritten.{ValueWritten}
+use Rattle.octets.specs.Value.{writeValue}
+use Rattle.seven.specs.Seven.{seven, some}
 use Rattle.time_slot.specs.declared.GuaranteedTimeSlotDescriptor.{GuaranteedTimeSlotDescriptor}
 use Rattle.time_slot.specs.Direction.{directionBit, directionOf}
 use Rattle.time_slot.specs.Descriptor.{emptyDescriptor, descriptorIn, descriptorBytes, descriptorTooLarge}

@@ -1,10 +1,9 @@
 -- `header::read_rest` meets its contract: the security part and the addresses are the definition's.
 -- Assumes nothing.
-use mathlib.Core.Path.{_≡_, sym, ap, _∙_}
-use native.Mathlib.Omega.{arith}
+use mathlib.Core.Path.{sym, ap, _∙_}
 use borrow.Author.Needs.{needs}
 use denote.Ref.{now}
-use Rattle.header.specs.Read.{sourceEnd, securityPart, readRest}
+use Rattle.header.specs.Read.{securityPart, readRest}
 use Rattle.header.proofs.read_rest.Statement.{statement}
 use Rattle.header.proofs.read_rest.Tie as tie
 

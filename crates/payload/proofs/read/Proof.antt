@@ -1,12 +1,9 @@
 -- `payload::read` meets its contract: by what reading the header answers, and by whether the beacon is to be read.
 -- Assumes nothing.
-use mathlib.Core.Path.{sym, ap, _∙_}
-use native.Mathlib.Omega.{arith}
+use mathlib.Core.Path.{sym, _∙_}
 use borrow.Author.Needs.{needs}
-use denote.Ref.{now}
 use Rattle.header.proofs.Bounds.{length-bounds}
-use Rattle.header.specs.Read.{readOutcome}
-use Rattle.payload.specs.Frame.{frameAfter, readFrame}
+use Rattle.payload.specs.Frame.{readFrame}
 use Rattle.payload.proofs.read.Statement.{statement}
 use Rattle.payload.proofs.read.Tie as tie
 

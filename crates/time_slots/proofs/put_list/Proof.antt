@@ -3,8 +3,7 @@
 use Prim.Native.Nat.{_≤_}
 use mathlib.Core.Path.{sym, ap, _∙_}
 use Rattle.octets.specs.Buffer.{laid}
-use Rattle.octets.proofs.Buffer.{laid-none}
-use Rattle.beacon_part.proofs.Buffer.{laid-two}
+use Rattle.octets.proofs.Buffer.{laid-none, laid-two}
 use native.Mathlib.Omega.{arith}
 use borrow.Author.Needs.{needs}
 use lib.ListN.{length}

@@ -2,7 +2,7 @@
 -- Assumes nothing.
 use native.Mathlib.Omega.{arith}
 use borrow.Author.Needs.{needs}
-use Rattle.beacon_part.proofs.Buffer.{laid-two}
+use Rattle.octets.proofs.Buffer.{laid-two}
 use Rattle.superframe.proofs.Superframe.{superframe-length}
 use Rattle.beacon.specs.Beacon.{beaconBytes}
 use Rattle.beacon.proofs.Content.{fitting}

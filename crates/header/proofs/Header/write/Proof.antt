@@ -1,9 +1,7 @@
 -- `header::Header::write` meets its contract: a refusal stores nothing; an accepted header has room, and its bytes are stored.
 -- Assumes nothing.
-use mathlib.Core.Path.{refl, sym, ap, _∙_}
-use native.Mathlib.Omega.{arith}
+use mathlib.Core.Path.{refl, sym, _∙_}
 use borrow.Author.Needs.{needs}
-use Rattle.octets.specs.Buffer.{laid}
 use Rattle.header.proofs.Laws.{written-fits}
 use Rattle.header.proofs.Header.write.Statement.{statement}
 use Rattle.header.proofs.Header.write.Tie as tie

@@ -1,6 +1,6 @@
 -- `header::Header::write_answer` meets its contract: its tests are the definition's, in their order.
 -- Assumes nothing.
-use mathlib.Core.Path.{_≡_, sym, _∙_}
+use mathlib.Core.Path.{sym, _∙_}
 use borrow.Author.Tests.{lt-ltb, le-ltb}
 use borrow.Author.Needs.{needs}
 use Rattle.header.specs.Write.{writeHeader}

@@ -3,7 +3,7 @@
 use native.Mathlib.Omega.{arith}
 use borrow.Author.Needs.{needs}
 use Rattle.octets.proofs.Little.{split-length}
-use Rattle.beacon_part.proofs.Buffer.{laid-two}
+use Rattle.octets.proofs.Buffer.{laid-two}
 use Rattle.pending.specs.Pending.{pendingBytes}
 use Rattle.pending.proofs.Pending.{fitting}
 use Rattle.pending.proofs.PendingAddress.put.Statement.{statement}

@@ -1,6 +1,6 @@
 -- `security::AuxiliarySecurityHeader::put` meets its contract: each store begins where the one before ended.
 -- Assumes nothing.
-use mathlib.Core.Path.{ap, _∙_}
+use mathlib.Core.Path.{_∙_}
 use native.Mathlib.Omega.{arith}
 use borrow.Author.Needs.{needs}
 use Rattle.octets.proofs.Buffer.{laid-join}

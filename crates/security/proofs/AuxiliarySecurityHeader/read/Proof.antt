@@ -1,7 +1,6 @@
 -- `security::AuxiliarySecurityHeader::read` meets its contract: five bytes tell how many there are to be; its tests are then the definition's.
 -- Assumes nothing.
-use Prim.Native.Nat.{_+_}
-use mathlib.Core.Path.{_≡_, ap, sym, _∙_}
+use mathlib.Core.Path.{_≡_, ap, _∙_}
 use denote.Ref.{now}
 use borrow.Author.Needs.{needs}
 use Rattle.octets.proofs.Part.{fewer, enough}

@@ -1,6 +1,6 @@
 -- `security::AuxiliarySecurityHeader::write` meets its contract: its tests are the definition's, in their order, and then the whole is stored.
 -- Assumes nothing.
-use mathlib.Core.Path.{refl, sym, _∙_}
+use mathlib.Core.Path.{refl}
 use borrow.Author.Needs.{needs}
 use borrow.Author.Tests.{lt-ltb, le-ltb}
 use Rattle.octets.proofs.Part.{fewer, enough}

@@ -1,6 +1,5 @@
 -- `security::AuxiliarySecurityHeader::written_control` meets its contract: the mode is the key identifier's.
 -- Assumes nothing.
-use mathlib.Core.Path.{ap, _∙_}
 use borrow.Author.Needs.{needs}
 use Rattle.security.proofs.AuxiliarySecurityHeader.written_control.Statement.{statement}
 use Rattle.security.proofs.AuxiliarySecurityHeader.written_control.Tie as tie

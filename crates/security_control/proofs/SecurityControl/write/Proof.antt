@@ -1,10 +1,8 @@
 -- `security_control::SecurityControl::write` meets its contract: its tests are the definition's, in their order, and `put` stores the byte.
 -- Assumes nothing.
-use mathlib.Core.Path.{refl, ap, _∙_}
+use mathlib.Core.Path.{refl}
 use borrow.Author.Needs.{needs}
 use borrow.Author.Tests.{lt-ltb, le-ltb}
-use Rattle.octets.specs.Buffer.{laid}
-use Rattle.octets.specs.Little.{split}
 use Rattle.octets.proofs.Part.{fewer, enough}
 use Rattle.security_control.proofs.SecurityControl.write.Statement.{statement}
 use Rattle.security_control.proofs.SecurityControl.write.Tie as tie

@@ -3,7 +3,7 @@
 use native.Mathlib.Omega.{arith}
 use borrow.Author.Needs.{needs}
 use Rattle.octets.proofs.Little.{split-length}
-use Rattle.beacon_part.proofs.Buffer.{laid-two}
+use Rattle.octets.proofs.Buffer.{laid-two}
 use Rattle.superframe.specs.Superframe.{superframeBytes}
 use Rattle.superframe.proofs.SuperframeSpecification.put.Statement.{statement}
 use Rattle.superframe.proofs.SuperframeSpecification.put.Tie as tie

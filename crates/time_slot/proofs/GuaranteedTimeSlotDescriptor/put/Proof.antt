@@ -3,7 +3,7 @@
 use native.Mathlib.Omega.{arith}
 use borrow.Author.Needs.{needs}
 use Rattle.octets.proofs.Little.{split-length}
-use Rattle.beacon_part.proofs.Buffer.{laid-two}
+use Rattle.octets.proofs.Buffer.{laid-two}
 use Rattle.time_slot.specs.Descriptor.{descriptorBytes}
 use Rattle.time_slot.proofs.Descriptor.{fitting}
 use Rattle.time_slot.proofs.GuaranteedTimeSlotDescriptor.put.Statement.{statement}

@@ -4,7 +4,7 @@ use native.Mathlib.Omega.{arith}
 use borrow.Author.Needs.{needs}
 use lib.ListN.{length-append}
 use Rattle.octets.proofs.Little.{split-length}
-use Rattle.beacon_part.proofs.Buffer.{laid-two}
+use Rattle.octets.proofs.Buffer.{laid-two}
 use Rattle.time_slots.specs.TimeSlots.{timeSlotsBytes}
 use Rattle.time_slots.proofs.TimeSlots.{fitting}
 use Rattle.time_slots.proofs.GuaranteedTimeSlotInformation.put.Statement.{statement}

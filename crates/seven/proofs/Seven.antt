@@ -13,9 +13,8 @@ use lib.ListN.{length, getD, set, take, drop, replicate, drop-of-length-le, leng
 use lib.Seq.{length-take-le, drop-cons, getD-take}
 use Rattle.octets.specs.Buffer.{laid}
 use Rattle.octets.proofs.Buffer.{laid-join, laid-none}
-use Rattle.octets.proofs.Order.{cases, holds?}
-use Rattle.beacon_part.specs.Seven.{seven, some}
-use Rattle.beacon_part.proofs.Value.{neither}
+use Rattle.octets.proofs.Order.{cases, holds?, neither}
+use Rattle.seven.specs.Seven.{seven, some}
 
 module _ {A : Type 0} where
   pub seven-none : (entry : ℕ → A) (empty : A) → seven entry empty 0 ≡ replicate 7 empty
