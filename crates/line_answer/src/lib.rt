@@ -1,0 +1,86 @@
+// The answer to one line, stored into a buffer. The functions ask for room (`requires`).
+ghost use mathlib.Core.List.{[], _∷_, _++_};
+ghost use Prim.Native.Nat.{_+_, _≤_, _<_};
+ghost use lib.ListN.{length};
+ghost use Rattle.header.specs.Read.{readHeader, readOutcome};
+ghost use Rattle.line_answer.specs.Answer.{decimal, told, bad, answer};
+ghost use Rattle.line_answer.specs.Stored.{Stored};
+use cutter::copy;
+use cutter::find;
+use header::Header;
+use hex::decode;
+use octets::Outcome;
+
+// Stores a number below 100 in decimal and a line feed.
+fn put_length(k: usize, out: &mut [u8], at: usize) -> usize
+    requires { ⌜ (k < 100) × (at + 3 ≤ length (now out)) ⌝ }
+    ensures { λ r. ⌜ Stored (now (out .entry)) at (decimal k ++ (10 ∷ [])) (now (out .exit)) r ⌝ }
+    ensures { λ r. ⌜ r ≤ at + 3 ⌝ }
+{
+    if k < 10 {
+        out[at] = 48 + k as u8;
+        out[at + 1] = 10;
+        return at + 2;
+    }
+    out[at] = 48 + (k / 10) as u8;
+    out[at + 1] = 48 + (k % 10) as u8;
+    out[at + 2] = 10;
+    at + 3
+}
+
+// Stores what stands behind a label: an answer's number and length.
+fn put_told(o: Outcome, out: &mut [u8], at: usize) -> usize
+    requires { ⌜ (o .number ≤ 5) × (o .length ≤ 37) × (at + 6 ≤ length (now out)) ⌝ }
+    ensures { λ r. ⌜ Stored (now (out .entry)) at (told o) (now (out .exit)) r ⌝ }
+    ensures { λ r. ⌜ r ≤ at + 6 ⌝ }
+{
+    out[at] = 9;
+    out[at + 1] = 48 + o.number;
+    out[at + 2] = 9;
+    put_length(o.length, out, at + 3)
+}
+
+fn put_bad(out: &mut [u8], at: usize) -> usize
+    requires { ⌜ at + 4 ≤ length (now out) ⌝ }
+    ensures { λ r. ⌜ Stored (now (out .entry)) at bad (now (out .exit)) r ⌝ }
+    ensures { λ r. ⌜ r ≤ at + 4 ⌝ }
+{
+    out[at] = 98;
+    out[at + 1] = 97;
+    out[at + 2] = 100;
+    out[at + 3] = 10;
+    at + 4
+}
+
+// Stores the answer to a line that is not bad, from its label and its bytes.
+pub fn put_good(label: &[u8], frame: &[u8], out: &mut [u8], at: usize) -> usize
+    requires { ⌜ at + length (now label) + 6 ≤ length (now out) ⌝ }
+    ensures { λ r. ⌜ Stored (now (out .entry)) at (now (label .entry) ++ told (readOutcome (readHeader (now (frame .entry))))) (now (out .exit)) r ⌝ }
+    ensures { λ r. ⌜ r ≤ at + length (now (label .entry)) + 6 ⌝ }
+{
+    let read = Header::read(frame);
+    let outcome = read.outcome();
+    let next = copy(label, out, at);
+    put_told(outcome, out, next)
+}
+
+// Stores the answer to a line, given without its line feed.
+pub fn put_answer(line: &[u8], out: &mut [u8], at: usize) -> usize
+    requires { ⌜ at + length (now line) + 5 ≤ length (now out) ⌝ }
+    ensures { λ r. ⌜ Stored (now (out .entry)) at (answer (now (line .entry))) (now (out .exit)) r ⌝ }
+    ensures { λ r. ⌜ r ≤ at + length (now (line .entry)) + 5 ⌝ }
+{
+    let mut frame = [0u8; 512];
+    if line.len() > 1024 {
+        return put_bad(out, at);
+    }
+    let tab = find(line, 0, 9, 9);
+    if tab >= line.len() {
+        return put_bad(out, at);
+    }
+    let n = decode(line, tab + 1, &mut frame);
+    if tab + 1 + 2 * n != line.len() {
+        return put_bad(out, at);
+    }
+    put_good(&line[..tab], &frame[..n], out, at)
+}
