@@ -1,0 +1,99 @@
+-- A line that lies in its chunk as a whole and is not bad: its label up to a tab, its digits in pairs, and a line feed.
+-- Assumes nothing.
+use Prim.Native.Nat.{ℕ, zero, suc, _+_, _-_, _*_, _≤_, _<_}
+use native.Mathlib.Omega.{arith}
+use mathlib.Core.Bool.{true, false, false≢true}
+use mathlib.Core.List.{List, [], _∷_, _++_, append-assoc}
+use mathlib.Core.Path.{_≡_, refl, sym, ap, _∙_}
+use borrow.Author.Tests.{ltb-true, eqb-true}
+use lib.Dec.{ltb}
+use lib.ListN.{length, getD, take, drop, length-append, length-drop}
+use lib.Seq.{split-at, getD-drop, drop-drop, length-take-le}
+use Rattle.octets.proofs.Order.{cases, holds?}
+use Rattle.cutter.specs.Line.{before}
+use Rattle.cutter.proofs.Line.{Free, free-append, free-first, free-second, before-part}
+use Rattle.hex.specs.Hex.{unhex, decoded}
+use Rattle.hex.proofs.Hex.{unhex-take, whole-good}
+use Rattle.header.specs.Read.{readHeader, readOutcome}
+use Rattle.line_answer.specs.Answer.{told}
+use Rattle.line_answer.specs.Stored.{Stored}
+use Rattle.lines.specs.Output.{fedTo, isAt}
+use Rattle.line_answer.proofs.Answer.{feed-foreign, foreign-free, answer-good}
+use Rattle.lines.proofs.Output.{fed-line}
+use Rattle.line_answer.proofs.Stored.{same}
+
+-- a byte is there, and is the one
+pub there : (s : List ℕ) (i b : ℕ) → isAt s i b ≡ true → (i < length s) × (getD s i 0 ≡ b)
+there s i b h =
+    cases (holds? (ltb i (length s)))
+    (λ e. (ltb-true i (length s) e, eqb-true (getD s i 0) b (simp e at h)))
+    (λ e. absurd (false≢true (simp e at h)))
+
+-- a front as long as a front is that front
+take-again : (k : ℕ) (u : List ℕ) → take (length (take k u)) u ≡ take k u
+take-again zero u = refl
+take-again (suc k) [] = refl
+take-again (suc k) (b ∷ u) = ap (λ (l : List ℕ). b ∷ l) (take-again k u)
+
+-- a list parted at a place, of which a part behind another is a part of the whole
+parted : (s : List ℕ) (at i p b : ℕ) → p ≡ at + i → p < length s → getD s p 0 ≡ b → drop at s ≡ take i (drop at s) ++ (b ∷ drop (p + 1) s)
+parted s at i p b e h g =
+    let k : i < length (drop at s) = omega (arith, length-drop at s) in
+    let f : at + suc i ≡ p + 1 = omega arith in
+    split-at (drop at s) i 0 k ∙ rw (getD-drop at s i 0, sym e, g, drop-drop (suc i) at s, f)
+
+module _ (chunk : List ℕ) (at tab n : ℕ) (e : tab ≡ at + length (before 9 10 (drop at chunk))) (t : isAt chunk tab 9 ≡ true)
+    (f : n ≡ length (decoded chunk (tab + 1) 512)) (g : isAt chunk (tab + 1 + 2 * n) 10 ≡ true) (h : tab + 1 + 2 * n - at ≤ 1024) where
+  label : List ℕ
+  label = take (tab - at) (drop at chunk)
+
+  digits : List ℕ
+  digits = take (2 * n) (drop (tab + 1) chunk)
+
+  label-before : label ≡ before 9 10 (drop at chunk)
+  unfolding label
+  label-before = before-part 9 10 at tab (drop at chunk) e
+
+  digits-length : length digits ≡ 2 * n
+  unfolding digits
+  digits-length = length-take-le (2 * n) (drop (tab + 1) chunk) (omega (arith, there chunk (tab + 1 + 2 * n) 10 g .0, length-drop (tab + 1) chunk))
+
+  digits-bytes : unhex digits ≡ decoded chunk (tab + 1) 512
+  unfolding digits
+  digits-bytes = unhex-take n (drop (tab + 1) chunk) ∙ ap (λ (k : ℕ). take k (unhex (drop (tab + 1) chunk))) f ∙ take-again 512 (unhex (drop (tab + 1) chunk))
+
+  digits-whole : 2 * length (unhex digits) ≡ length digits
+  digits-whole = omega (arith, ap length digits-bytes, digits-length, f)
+
+  -- the chunk from here on
+  laid-out : drop at chunk ≡ (label ++ (9 ∷ digits)) ++ (10 ∷ drop (tab + 1 + 2 * n + 1) chunk)
+  unfolding label digits
+  laid-out =
+      let a = there chunk tab 9 t in
+      let b = there chunk (tab + 1 + 2 * n) 10 g in
+      parted chunk at (tab - at) tab 9 (omega arith) (a .0) (a .1)
+      ∙ ap (λ (l : List ℕ). label ++ (9 ∷ l)) (parted chunk (tab + 1) (2 * n) (tab + 1 + 2 * n) 10 refl (b .0) (b .1))
+      ∙ sym (append-assoc label (9 ∷ digits) (10 ∷ drop (tab + 1 + 2 * n + 1) chunk))
+
+  label-length : length label ≡ tab - at
+  label-length = omega (arith, ap length label-before)
+
+  short : length (label ++ (9 ∷ digits)) ≤ 1024
+  short = rw length-append (omega (arith, label-length, digits-length))
+
+  no-tab : Free 9 label
+  no-tab = rw label-before (free-first 9 10 (drop at chunk))
+
+  no-feed : Free 10 (label ++ (9 ∷ digits))
+  no-feed =
+      free-append 10 label (9 ∷ digits) (rw label-before (free-second 9 10 (drop at chunk)))
+      (refl, foreign-free 10 digits feed-foreign (whole-good digits digits-whole .1))
+
+  pub quick-fed : (out o : List ℕ) (u r : ℕ) →
+      Stored out u (take (tab - at) (drop at chunk) ++ told (readOutcome (readHeader (decoded chunk (tab + 1) 512)))) o r →
+      fedTo [] (drop (tab + 1 + 2 * n + 1) chunk) o r ≡ fedTo [] (drop at chunk) out u
+  unfolding label
+  quick-fed out o u r s =
+      let a = ap (λ (l : List ℕ). label ++ told (readOutcome (readHeader l))) (sym digits-bytes) ∙ sym (answer-good label digits no-tab short digits-whole) in
+      fed-line (label ++ (9 ∷ digits)) [] (drop (tab + 1 + 2 * n + 1) chunk) out o u r no-feed (same a s)
+      ∙ ap (λ (l : List ℕ). fedTo [] l out u) (sym laid-out)

@@ -1,0 +1,30 @@
+-- `lines::finish` meets its contract.
+-- Assumes nothing.
+use native.Mathlib.Omega.{arith}
+use mathlib.Core.Path.{_≡_, sym}
+use borrow.Author.Needs.{needs}
+use lib.ListN.{length, take}
+use lib.Seq.{length-take-le}
+use Rattle.lines.proofs.Output.{last-none, last-some}
+use Rattle.line_answer.proofs.Stored.{none, same}
+use Rattle.lines.proofs.finish.Statement.{statement}
+use Rattle.lines.proofs.finish.Tie as tie
+
+-- the line is as long as it is said to be
+long : (c : tie.Else1) → length (take (c .before .before .before .args .n) (c .before .before .before .args .line .now)) ≡ c .before .before .before .args .n
+long c = length-take-le _ _ (c .before .before .before .pre .0)
+
+nothing : tie.Need-returns
+nothing c = (same (last-none _ _ (c .if1 .taken)) (none _ _), omega arith)
+
+some : tie.Need-returns-2
+some c =
+    let p = c .before .before in
+    let e = p .before .before .before in
+    (same (last-some _ (omega (arith, long e, e .if1 .left))) (p .put-answer .ensures .0), omega (arith, p .put-answer .ensures .1, long e))
+
+pub finish-spec : {M : Type 1} → statement M
+finish-spec =
+    tie.close
+    (tie.spec nothing (λ c. sym (long (c .before))) (λ c κs. omega (arith, long (c .before .before), c .before .before .before .before .before .pre .1))
+    (λ c. search needs) some)

@@ -1,0 +1,61 @@
+-- `lines::put_line` meets its contract: it does with the line that was cut what the laws of such a line say.
+-- Assumes nothing.
+use Prim.Native.Nat.{_≤_}
+use native.Mathlib.Omega.{arith}
+use mathlib.Core.Path.{_≡_, sym}
+use borrow.Author.Needs.{needs}
+use lib.ListN.{length, take}
+use lib.Seq.{length-take-le}
+use Rattle.lines.proofs.Cut.{cut-small, cut-room, cut-ended, cut-open}
+use Rattle.lines.proofs.put_line.Statement.{statement}
+use Rattle.lines.proofs.put_line.Tie as tie
+
+-- the line is within its buffer
+within : (c : tie.After-cut) → c .cut .result .n ≤ length (c .cut .last .1 .1 .0)
+within c =
+    let s = c .before .before .before .before .before in
+    let a = s .args in
+    let k = cut-small (a .chunk .now) (a .at) (a .line .now) (a .n) (c .cut .result) _ (c .cut .ensures .0) (c .cut .ensures .1) (s .pre .0) (s .pre .1) (s .pre .2) in
+    omega (arith, k .0, c .cut .kept .1 .1 .0, s .pre .1)
+
+whole : (c : tie.After-cut) → length (take (c .cut .result .n) (c .cut .last .1 .1 .0)) ≡ c .cut .result .n
+whole c = length-take-le _ _ (within c)
+
+room : tie.Need-put-answer-requires
+room c κs =
+    let t = c .before .before in
+    let k = t .before .before .before in
+    let s = k .before .before .before .before .before in
+    let a = s .args in
+    omega (
+      arith,
+      whole k,
+      cut-room (a .chunk .now) (a .at) (a .line .now) (a .n) (k .cut .result) _ (k .cut .ensures .0) (k .cut .ensures .1) (s .pre .0) (s .pre .1) (s .pre .2) (t .if1 .taken),
+      s .pre .3,
+    )
+
+ended : tie.Need-returns
+ended c =
+    let p = c .before .before in
+    let t = p .before .before .before in
+    let k = t .before .before .before in
+    let s = k .before .before .before .before .before in
+    let a = s .args in
+    let r = cut-ended (a .chunk .now) (a .at) (a .line .now) (a .n) (k .cut .result) _ (k .cut .ensures .0) (k .cut .ensures .1) (s .pre .0) (s .pre .1) (s .pre .2)
+    (a .out .now) _ (a .used) (p .put-answer .result) (t .if1 .taken) (p .put-answer .ensures .0) (omega (arith, whole k, p .put-answer .ensures .1)) in
+    (r .0, r .1)
+
+unended : tie.Need-returns-2
+unended c =
+    let k = c .before .before .before in
+    let s = k .before .before .before .before .before in
+    let a = s .args in
+    let r = cut-open (a .chunk .now) (a .at) (a .line .now) (a .n) (k .cut .result) _ (k .cut .ensures .0) (k .cut .ensures .1) (s .pre .0) (s .pre .1) (s .pre .2)
+    (a .out .now) (a .used) (c .if1 .left) in
+    (r .0, r .1)
+
+pub put-line-spec : {M : Type 1} → statement M
+put-line-spec =
+    tie.close
+    (tie.spec (λ c κs. search needs) (λ c. within (c .before .before .before)) (λ c. sym (whole (c .before .before .before .before))) room
+    (λ c. search needs) (λ c. search needs) ended (λ c. search needs) unended)

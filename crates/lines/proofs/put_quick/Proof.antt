@@ -1,0 +1,116 @@
+-- `lines::put_quick` meets its contract: what its tests show is what makes a line that lies in its chunk as a whole and is not bad.
+-- Assumes nothing.
+use Prim.Native.Nat.{ℕ, _+_, _-_, _*_, _≤_, _<_}
+use native.Mathlib.Omega.{arith}
+use mathlib.Core.Bool.{true}
+use mathlib.Core.List.{List, _++_}
+use mathlib.Core.Path.{_≡_, refl, sym, ap, _∙_}
+use borrow.Author.Needs.{needs}
+use borrow.Author.Tests.{not-false}
+use lib.ListN.{length, take, drop, length-drop}
+use lib.Seq.{length-take-le}
+use Rattle.octets.specs.Buffer.{laid}
+use Rattle.hex.specs.Hex.{decoded}
+use Rattle.hex.proofs.Hex.{decoded-room}
+use Rattle.header.specs.Read.{readHeader, readOutcome}
+use Rattle.line_answer.specs.Answer.{told}
+use Rattle.lines.specs.Output.{isAt}
+use Rattle.lines.proofs.Quick.{there, quick-fed}
+use Rattle.line_answer.proofs.Stored.{same, front}
+use Rattle.lines.proofs.put_quick.Statement.{statement}
+use Rattle.lines.proofs.put_quick.Tie as tie
+
+-- a tab ends the label
+tab-there : (c : tie.Else1) → isAt (c .before .before .before .before .before .before .args .chunk .now) (c .before .before .find .result) 9 ≡ true
+tab-there c = sym (c .before .is-at .ensures) ∙ not-false _ (c .if1 .left)
+
+tab-within : (c : tie.Else1) → c .before .before .find .result < length (c .before .before .before .before .before .before .args .chunk .now)
+tab-within c = there (c .before .before .before .before .before .before .args .chunk .now) (c .before .before .find .result) 9 (tab-there c) .0
+
+-- the bytes that are decoded behind it stand at the beginning of the frame
+count : (c : tie.After-decode) →
+    let f = c .before .before .before .before in
+    c .decode .result ≡ length (decoded (f .before .before .before .before .args .chunk .now) (f .find .result + 1) 512)
+count c =
+    let f = c .before .before .before .before in
+    let s = f .before .before .before .before in
+    c .decode .ensures .0 ∙ ap (λ (k : ℕ). length (decoded (s .args .chunk .now) (f .find .result + 1) k)) (s .pre .1)
+
+few : (c : tie.After-decode) → c .decode .result ≤ 512
+few c =
+    let f = c .before .before .before .before in
+    omega (arith, count c, decoded-room (f .before .before .before .before .args .chunk .now) (f .find .result + 1) 512)
+
+bytes : (c : tie.After-decode) →
+    let f = c .before .before .before .before in
+    take (c .decode .result) (c .decode .last .1 .1 .0) ≡ decoded (f .before .before .before .before .args .chunk .now) (f .find .result + 1) 512
+bytes c =
+    let f = c .before .before .before .before in
+    let s = f .before .before .before .before in
+    ap (take (c .decode .result))
+    (c .decode .ensures .1 ∙ ap (λ (k : ℕ). laid (s .args .frame .now) 0 (decoded (s .args .chunk .now) (f .find .result + 1) k)) (s .pre .1))
+    ∙ front (s .args .frame .now) _ (c .decode .result) (sym (count c)) (omega (arith, few c, s .pre .1))
+
+-- a line feed ends the digits
+feed-there : (c : tie.Else2) →
+    let d = c .before .before .before .before in
+    let f = d .before .before .before .before in
+    isAt (f .before .before .before .before .args .chunk .now) (f .find .result + 1 + 2 * d .decode .result) 10 ≡ true
+feed-there c = sym (c .before .is-at2 .ensures) ∙ not-false _ (c .if2 .left)
+
+feed-within : (c : tie.Else2) →
+    let d = c .before .before .before .before in
+    let f = d .before .before .before .before in
+    f .find .result + 1 + 2 * d .decode .result < length (f .before .before .before .before .args .chunk .now)
+feed-within c =
+    let d = c .before .before .before .before in
+    let f = d .before .before .before .before in
+    there (f .before .before .before .before .args .chunk .now) (f .find .result + 1 + 2 * d .decode .result) 10 (feed-there c) .0
+
+-- the label is a part of the chunk
+label : (c : tie.Else2) →
+    let f = c .before .before .before .before .before .before .before .before in
+    let a = f .before .before .before .before .args in
+    length (take (f .find .result - a .at) (drop (a .at) (a .chunk .now))) ≡ f .find .result - a .at
+label c =
+    let f = c .before .before .before .before .before .before .before .before in
+    let a = f .before .before .before .before .args in
+    length-take-le (f .find .result - a .at) (drop (a .at) (a .chunk .now)) (omega (arith, feed-within c, length-drop (a .at) (a .chunk .now)))
+
+room : tie.Need-put-good-requires
+room c κs =
+    let e = c .before .before .before .before in
+    let f = e .before .before .before .before .before .before .before .before in
+    let s = f .before .before .before .before in
+    omega (arith, label e, feed-within e, s .pre, f .find .ensures)
+
+good : tie.Need-returns-4
+good c =
+    let p = c .before .before in
+    let x = p .before .before .before .before in
+    let e = x .before in
+    let d = e .before .before .before .before in
+    let f = d .before .before .before .before in
+    let s = f .before .before .before .before in
+    let a = s .args in (
+      quick-fed (a .chunk .now) (a .at) (f .find .result) (d .decode .result) (f .find .ensures) (tab-there (d .before .before)) (count d) (feed-there e)
+          (x .if3 .left) (a .out .now) _ (a .used) (p .put-good .result)
+          (same (ap (λ (u : List ℕ). take (f .find .result - a .at) (drop (a .at) (a .chunk .now)) ++ told (readOutcome (readHeader u))) (bytes d)) (p .put-good .ensures .0)),
+      (
+        refl,
+        omega (arith, f .find .ensures),
+        omega (arith, feed-within e),
+        omega (arith, p .put-good .ensures .1, label e, feed-within e, f .find .ensures),
+      ),
+    )
+
+pub put-quick-spec : {M : Type 1} → statement M
+put-quick-spec =
+    tie.close
+    (tie.spec (λ c κs. search needs) (λ c κs. search needs) (λ c. search needs) (λ c. omega (arith, tab-within c)) (λ c κs. search needs)
+    (λ c. omega (arith, tab-within (c .before .before .before .before))) (λ c. omega (arith, few (c .before .before)))
+    (λ c. omega (arith, tab-within (c .before .before .before .before), few (c .before .before))) (λ c κs. search needs) (λ c. search needs)
+    (λ c. search needs) (λ c. search needs) (λ c. search needs) (λ c. search needs) (λ c. search needs) (λ c. search needs)
+    (λ c. omega (arith, tab-within (c .before .before .before .before .before .before .before))) (λ c. search needs)
+    (λ c. let d = c .before .before .before .before .before .before .before in count d ∙ sym (ap length (bytes d))) room (λ c. search needs)
+    (λ c. search needs) (λ c. search needs) good)

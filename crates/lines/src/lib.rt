@@ -1,0 +1,139 @@
+// The line program on slices: what a chunk of the input adds to the output, and what its end adds. The functions ask for room
+// (`requires`); the line at hand is the first n bytes of a buffer of 1,025, one more than the longest line.
+ghost use mathlib.Core.List.{[]};
+ghost use mathlib.Core.Path.{_≡_};
+ghost use Prim.Native.Nat.{_+_, _-_, _*_, _≤_, _<_};
+ghost use lib.ListN.{length, take, drop};
+ghost use Rattle.cutter.specs.Lines.{last};
+ghost use Rattle.line_answer.specs.Stored.{Stored};
+ghost use Rattle.lines.specs.Output.{isAt, Onward, answers, fedTo};
+use cutter::cut;
+use cutter::find;
+use hex::decode;
+use line_answer::put_answer;
+use line_answer::put_good;
+
+// How many bytes of the line at hand are kept, and how much of the output is used.
+pub struct Fed {
+    pub n: usize,
+    pub used: usize,
+}
+
+// The same in the midst of a chunk, with the place up to which the chunk is used.
+struct Step {
+    n: usize,
+    used: usize,
+    at: usize,
+}
+
+// Takes a chunk from a place on up to the end of the line at hand, and stores the answer to that line where it ends.
+fn put_line(chunk: &[u8], at: usize, line: &mut [u8], n: usize, out: &mut [u8], used: usize) -> Step
+    requires { ⌜ (n ≤ 1025) × (length (now line) ≡ 1025) × (at < length (now chunk)) × (used + n + 5 * (length (now chunk) - at) ≤ length (now out)) ⌝ }
+    ensures { λ r. ⌜ fedTo (take (r .n) (now (line .exit))) (drop (r .at) (now (chunk .entry))) (now (out .exit)) (r .used) ≡ fedTo (take n (now (line .entry))) (drop at (now (chunk .entry))) (now (out .entry)) used ⌝ }
+    ensures { λ r. ⌜ Onward (length (now (chunk .entry))) n used at (r .n) (r .used) (r .at) ⌝ }
+{
+    let taken = cut(chunk, at, line, n);
+    let kept = taken.n;
+    if taken.ended {
+        let next = put_answer(&line[..kept], out, used);
+        return Step {
+            n: 0,
+            used: next,
+            at: taken.at,
+        };
+    }
+    Step {
+        n: kept,
+        used,
+        at: taken.at,
+    }
+}
+
+fn is_at(s: &[u8], i: usize, b: u8) -> bool
+    ensures { λ r. ⌜ r ≡ isAt (now (s .entry)) i b ⌝ }
+{
+    if i < s.len() { s[i] == b } else { false }
+}
+
+// The quick way: where a line begins at a place of a chunk, ends in it and is not bad, stores its answer from where it lies. Otherwise it
+// stores nothing, and no byte is used.
+fn put_quick(chunk: &[u8], at: usize, frame: &mut [u8], out: &mut [u8], used: usize) -> Step
+    requires { ⌜ (at ≤ length (now chunk)) × (length (now frame) ≡ 512) × (used + 5 * (length (now chunk) - at) ≤ length (now out)) ⌝ }
+    ensures { λ r. ⌜ fedTo [] (drop (r .at) (now (chunk .entry))) (now (out .exit)) (r .used) ≡ fedTo [] (drop at (now (chunk .entry))) (now (out .entry)) used ⌝ }
+    ensures { λ r. ⌜ (r .n ≡ 0) × (at ≤ r .at) × (r .at ≤ length (now (chunk .entry))) × (r .used + 5 * (length (now (chunk .entry)) - r .at) ≤ used + 5 * (length (now (chunk .entry)) - at)) ⌝ }
+{
+    let tab = find(chunk, at, 9, 10);
+    if !is_at(chunk, tab, 9) {
+        return Step { n: 0, used, at };
+    }
+    let n = decode(chunk, tab + 1, frame);
+    let end = tab + 1 + 2 * n;
+    if !is_at(chunk, end, 10) {
+        return Step { n: 0, used, at };
+    }
+    if end - at > 1024 {
+        return Step { n: 0, used, at };
+    }
+    let next = put_good(&chunk[at..tab], &frame[..n], out, used);
+    Step {
+        n: 0,
+        used: next,
+        at: end + 1,
+    }
+}
+
+// One line, or what there is of it: the quick way where it can be taken, else by way of the buffer.
+fn put_next(
+    chunk: &[u8],
+    at: usize,
+    line: &mut [u8],
+    n: usize,
+    frame: &mut [u8],
+    out: &mut [u8],
+    used: usize,
+) -> Step
+    requires { ⌜ (n ≤ 1025) × (length (now line) ≡ 1025) × (at < length (now chunk)) × (length (now frame) ≡ 512) × (used + n + 5 * (length (now chunk) - at) ≤ length (now out)) ⌝ }
+    ensures { λ r. ⌜ fedTo (take (r .n) (now (line .exit))) (drop (r .at) (now (chunk .entry))) (now (out .exit)) (r .used) ≡ fedTo (take n (now (line .entry))) (drop at (now (chunk .entry))) (now (out .entry)) used ⌝ }
+    ensures { λ r. ⌜ Onward (length (now (chunk .entry))) n used at (r .n) (r .used) (r .at) ⌝ }
+{
+    if n > 0 {
+        return put_line(chunk, at, line, n, out, used);
+    }
+    let quick = put_quick(chunk, at, frame, out, used);
+    if quick.at > at {
+        return quick;
+    }
+    put_line(chunk, at, line, n, out, quick.used)
+}
+
+// A chunk of the input, of any length: stores the answers to the lines that end in it, from the beginning of out, and keeps what has come
+// of the next line, its first 1,025 bytes. Asks for room: five bytes for each of the chunk, and 1,025.
+pub fn feed(chunk: &[u8], line: &mut [u8], n: usize, out: &mut [u8]) -> Fed
+    requires { ⌜ (n ≤ 1025) × (length (now line) ≡ 1025) × (1025 + 5 * length (now chunk) ≤ length (now out)) ⌝ }
+    ensures { λ r. ⌜ record { out = now (out .exit); used = r .used; kept = take (r .n) (now (line .exit)) } ≡ fedTo (take n (now (line .entry))) (now (chunk .entry)) (now (out .entry)) 0 ⌝ }
+    ensures { λ r. ⌜ (r .n ≤ 1025) × (r .used ≤ length (now (out .entry))) ⌝ }
+{
+    let mut frame = [0u8; 512];
+    let mut held = n;
+    let mut used = 0;
+    let mut at = 0;
+    while at < chunk.len() {
+        let next = put_next(chunk, at, line, held, &mut frame, out, used);
+        held = next.n;
+        used = next.used;
+        at = next.at;
+    }
+    Fed { n: held, used }
+}
+
+// The end of the input: stores the answer to a last line that was not ended.
+pub fn finish(line: &[u8], n: usize, out: &mut [u8]) -> usize
+    requires { ⌜ (n ≤ length (now line)) × (n + 5 ≤ length (now out)) ⌝ }
+    ensures { λ r. ⌜ Stored (now (out .entry)) 0 (answers (last (take n (now (line .entry))))) (now (out .exit)) r ⌝ }
+    ensures { λ r. ⌜ r ≤ n + 5 ⌝ }
+{
+    if n == 0 {
+        return 0;
+    }
+    put_answer(&line[..n], out, 0)
+}
