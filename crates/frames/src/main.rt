@@ -1,0 +1,106 @@
+// The line program: for each line of standard input, a label and a frame in hex, its label with the header's refusal number and length. The
+// work is done by `lines`; here are the reading and the writing, in chunks of up to 65,536 bytes.
+ghost use mathlib.Core.Path.{_≡_};
+ghost use Prim.Native.Nat.{_≤_};
+ghost use lib.ListN.{length, take};
+ghost use Rattle.lines.specs.Output.{fedTo};
+use libc::STDIN_FILENO;
+use libc::STDOUT_FILENO;
+
+// What comes after a turn: another one, the end of the input, or nothing, since an error was told.
+const MORE: u8 = 0;
+
+const ENDED: u8 = 1;
+
+const FAILED: u8 = 2;
+
+// A turn: n bytes of the line at hand are kept, got bytes were read, used bytes were to be written, and what comes next.
+struct Turn {
+    n: usize,
+    got: usize,
+    used: usize,
+    next: u8,
+}
+
+// Reads once, and writes the answers to the lines that end in what was read. Whatever that is, the first got bytes of chunk, it is what is
+// fed, and what is fed leads to is what is to be written. An interrupted read is no error.
+fn take_turn(chunk: &mut [u8], line: &mut [u8], n: usize, out: &mut [u8]) -> Turn
+    requires { ⌜ (n ≤ 1025) × (length (now line) ≡ 1025) × (length (now chunk) ≡ 65536) × (length (now out) ≡ 328705) ⌝ }
+    ensures { λ r. ⌜ record { out = now (out .exit); used = r .used; kept = take (r .n) (now (line .exit)) } ≡ fedTo (take n (now (line .entry))) (take (r .got) (now (chunk .exit))) (now (out .entry)) 0 ⌝ }
+    ensures { λ r. ⌜ r .n ≤ 1025 ⌝ }
+{
+    let got = libc::read(STDIN_FILENO, chunk);
+    if got < 0 {
+        if os::errno() == libc::EINTR {
+            return Turn {
+                n,
+                got: 0,
+                used: 0,
+                next: MORE,
+            };
+        }
+        os::fail(b"read");
+        return Turn {
+            n,
+            got: 0,
+            used: 0,
+            next: FAILED,
+        };
+    }
+    if got == 0 {
+        return Turn {
+            n,
+            got: 0,
+            used: 0,
+            next: ENDED,
+        };
+    }
+    let count = io::count(got, chunk);
+    let fed = lines::feed(&chunk[..count], line, n, out);
+    let used = fed.used;
+    if io::write_all(STDOUT_FILENO, &out[..used]) {
+        return Turn {
+            n: fed.n,
+            got: count,
+            used,
+            next: MORE,
+        };
+    }
+    os::fail(b"write");
+    Turn {
+        n: fed.n,
+        got: count,
+        used,
+        next: FAILED,
+    }
+}
+
+// Writes the answer to a last line that was not ended.
+fn end(line: &[u8], n: usize, out: &mut [u8])
+    requires { ⌜ (n ≤ 1025) × (length (now line) ≡ 1025) × (length (now out) ≡ 328705) ⌝ }
+{
+    let used = lines::finish(line, n, out);
+    if !io::write_all(STDOUT_FILENO, &out[..used]) {
+        os::fail(b"write");
+    }
+}
+
+// A proved loop has to end, and nothing says that the input does, so the loop counts its turns down from a number that no
+// run uses up.
+fn main() {
+    let mut chunk = [0u8; 65536];
+    let mut line = [0u8; 1025];
+    let mut out = [0u8; 328705];
+    let mut n = 0;
+    let mut next = MORE;
+    let mut turns = u64::MAX;
+    while turns > 0 && next == MORE {
+        let turn = take_turn(&mut chunk, &mut line, n, &mut out);
+        n = turn.n;
+        next = turn.next;
+        turns -= 1;
+    }
+    if next == ENDED {
+        end(&line, n, &mut out);
+    }
+}
