@@ -1,0 +1,242 @@
+//! Equal, listed or unlisted: what document 01 says of a difference.
+
+use std::collections::BTreeMap;
+
+#[derive(PartialEq)]
+pub enum Verdict {
+    Agree,
+    Differ,
+}
+
+#[derive(Clone)]
+struct Example {
+    command: Vec<u8>,
+    left: Vec<u8>,
+    right: Vec<u8>,
+}
+
+impl Example {
+    /// Shorter first, then by its digits; what is read or written before the room.
+    fn rank(&self) -> (usize, &[u8], &[u8]) {
+        let cut = self.command.len().min(2 + 22);
+        let (prefix, rest) = self.command.split_at(cut);
+        (self.command.len(), rest, prefix)
+    }
+}
+
+#[derive(Default)]
+struct Class {
+    count: u64,
+    smallest: Option<Example>,
+}
+
+impl Class {
+    fn add(&mut self, count: u64, example: Option<Example>) {
+        self.count += count;
+        if let Some(example) = example {
+            if self.smallest.as_ref().map_or(true, |smallest| example.rank() < smallest.rank()) {
+                self.smallest = Some(example);
+            }
+        }
+    }
+}
+
+/// Counts over some commands, and the smallest example of each class of difference.
+#[derive(Default)]
+pub struct Table {
+    commands: u64,
+    equal: u64,
+    not_had: u64,
+    listed: BTreeMap<String, Class>,
+    unlisted: BTreeMap<String, Class>,
+}
+
+const BETWEEN: &str = "Rust against model";
+const PROGRAM: &str = "program";
+
+fn fields(line: &[u8]) -> Vec<&[u8]> {
+    line.split(|byte| *byte == b'\t').collect()
+}
+
+/// Whether the dump of this command ends in the three fields of a writing: number, length, buffer.
+fn writes(command: &[u8], answer: &[&[u8]]) -> bool {
+    match command[0] {
+        b'A'..=b'Z' => 3 <= answer.len(),
+        b't' | b'v' | b'm' | b'o' | b'k' | b'p' | b'd' => false,
+        _ => 5 <= answer.len(),
+    }
+}
+
+/// A raw dump line in the folded form.
+fn folded(command: &[u8], answer: &[u8]) -> Vec<u8> {
+    let mut parts = fields(answer);
+    if writes(command, &parts) && parts[parts.len() - 3] != b"0" {
+        parts.pop();
+    }
+    if parts[0] == b"5" && 2 <= parts.len() && !command[0].is_ascii_uppercase() {
+        parts[0] = b"4";
+    }
+    parts.join(&b'\t')
+}
+
+fn written_number<'a>(command: &[u8], answer: &'a [u8]) -> Option<&'a [u8]> {
+    let parts = fields(answer);
+    writes(command, &parts).then(|| parts[parts.len() - 3])
+}
+
+/// Equal as far as the Rust could be asked: a last field `?` stands for anything.
+fn equal_as_asked(rust: &[u8], other: &[u8]) -> Option<bool> {
+    match rust.split_last() {
+        Some((b'?', asked)) => Some(other.starts_with(asked)),
+        _ => None,
+    }
+}
+
+fn kept(command: &[u8], answer: &[u8]) -> bool {
+    let parts = fields(answer);
+    !writes(command, &parts) || parts[parts.len() - 3] == b"0" || parts[parts.len() - 1].chunks(2).all(|byte| byte == b"a5")
+}
+
+impl Table {
+    pub fn equal(&mut self, count: u64) {
+        self.commands += count;
+        self.equal += count;
+    }
+
+    /// The Rust's raw answer against the model's.
+    pub fn pair(&mut self, command: &[u8], rust: &[u8], model: &[u8]) {
+        self.commands += 1;
+        let example = || Some(Example { command: command.to_vec(), left: rust.to_vec(), right: model.to_vec() });
+        if !kept(command, model) || model == b"panic" || model == b"bad" {
+            self.unlisted.entry(format!("model alone, kind {}", command[0] as char)).or_default().add(1, example());
+        } else if rust == model {
+            self.equal += 1;
+        } else if let Some(equal) = equal_as_asked(rust, model) {
+            if equal {
+                self.not_had += 1;
+            } else {
+                self.unlisted.entry(format!("{BETWEEN}, kind {}", command[0] as char)).or_default().add(1, example());
+            }
+        } else if written_number(command, model) == Some(b"8") {
+            self.listed.entry(format!("8, kind {}", command[0] as char)).or_default().add(1, example());
+        } else if folded(command, rust) != folded(command, model) {
+            self.unlisted.entry(format!("{BETWEEN}, kind {}", command[0] as char)).or_default().add(1, example());
+        } else if kept(command, rust) {
+            self.listed.entry(format!("5 is 4 in the Rust, kind {}", command[0] as char)).or_default().add(1, example());
+        } else {
+            self.listed.entry(format!("buffer after a refusal, kind {}", command[0] as char)).or_default().add(1, example());
+        }
+    }
+
+    /// The program's answer against the Rust's, and against the model's where the Rust could not be asked or the record is not free of 8.
+    pub fn program(&mut self, command: &[u8], rust: &[u8], model: &[u8], program: &[u8]) {
+        let by_rust = match equal_as_asked(rust, program) {
+            Some(equal) => equal,
+            None => written_number(command, model) == Some(b"8") || folded(command, rust) == program,
+        };
+        if !by_rust || folded(command, model) != program {
+            let example = Example { command: command.to_vec(), left: rust.to_vec(), right: program.to_vec() };
+            self.unlisted.entry(format!("{PROGRAM}, kind {}", command[0] as char)).or_default().add(1, Some(example));
+        }
+    }
+
+    /// A digest differs and none of its commands does.
+    pub fn digest_alone(&mut self, command: &[u8]) {
+        let example = Example { command: command.to_vec(), left: Vec::new(), right: Vec::new() };
+        self.unlisted.entry("digest alone".to_string()).or_default().add(1, Some(example));
+    }
+
+    pub fn unlisted(&self) -> u64 {
+        self.unlisted.values().map(|class| class.count).sum()
+    }
+
+    pub fn has_unlisted(&self, by_program: bool) -> bool {
+        self.worst(by_program).is_some()
+    }
+
+    /// The smallest command with an unlisted difference.
+    pub fn worst(&self, by_program: bool) -> Option<Vec<u8>> {
+        self.unlisted
+            .iter()
+            .filter(|(name, _)| name.starts_with(PROGRAM) == by_program && *name != "digest alone")
+            .filter_map(|(_, class)| class.smallest.as_ref())
+            .min_by(|one, other| one.rank().cmp(&other.rank()))
+            .map(|example| example.command.clone())
+    }
+
+    pub fn add(&mut self, other: Table) {
+        self.commands += other.commands;
+        self.equal += other.equal;
+        self.not_had += other.not_had;
+        for (mine, theirs) in [(&mut self.listed, other.listed), (&mut self.unlisted, other.unlisted)] {
+            for (name, class) in theirs {
+                mine.entry(name).or_default().add(class.count, class.smallest);
+            }
+        }
+    }
+
+    /// Takes only the examples of another table.
+    pub fn add_smallest(&mut self, other: Table) {
+        for (name, class) in other.unlisted {
+            self.unlisted.entry(name).or_default().add(0, class.smallest);
+        }
+    }
+
+    pub fn row(&self, name: &str, what: &str) {
+        let listed: u64 = self.listed.values().map(|class| class.count).sum();
+        println!(
+            "{name:<14} {:>9} {:>9} {listed:>9} {:>8} {:>9}  {what}",
+            self.commands,
+            self.equal,
+            self.not_had,
+            self.unlisted()
+        );
+    }
+
+    /// Prints the classes with the smallest command of each.
+    pub fn tell(&self) -> Verdict {
+        for (title, classes) in [("listed", &self.listed), ("UNLISTED", &self.unlisted)] {
+            for (name, class) in classes {
+                println!("{title}: {name}: {}", class.count);
+                if let Some(example) = &class.smallest {
+                    let text = |bytes: &[u8]| String::from_utf8_lossy(bytes).replace('\t', " ");
+                    println!("    command {}", text(&example.command));
+                    println!("    Rust    {}", text(&example.left));
+                    println!("    here    {}", text(&example.right));
+                }
+            }
+        }
+        if self.unlisted() == 0 {
+            println!("no difference but the listed ones");
+            Verdict::Agree
+        } else {
+            println!("{} unlisted differences", self.unlisted());
+            Verdict::Differ
+        }
+    }
+}
+
+/// Commands a little smaller than this one: a byte less at the end, a byte made 0 or halved.
+pub fn smaller(command: &[u8]) -> Vec<Vec<u8>> {
+    let (start, digits) = command.split_at(2);
+    let bytes = oracle_format::text::bytes_of_hex(digits).unwrap_or_default();
+    let with = |bytes: &[u8]| {
+        let mut line = start.to_vec();
+        oracle_format::text::hex(bytes, &mut line);
+        line
+    };
+    let mut found = Vec::new();
+    if let Some((_, shorter)) = bytes.split_last() {
+        found.push(with(shorter));
+    }
+    for at in 0..bytes.len() {
+        for value in [0, bytes[at] / 2] {
+            if value < bytes[at] {
+                let mut changed = bytes.clone();
+                changed[at] = value;
+                found.push(with(&changed));
+            }
+        }
+    }
+    found
+}
