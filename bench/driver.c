@@ -1,0 +1,181 @@
+/* Calls one entry on one frame, or on a corpus, many times. Told are the instructions by which a run grows for each call, less those of an empty call.
+   usage: driver CASE COUNT, driver list, driver check */
+#include <stdint.h>
+#include <stdio.h>
+#include <stdlib.h>
+#include <string.h>
+
+uint64_t knobtangle_read_header(const uint8_t *frame, size_t length);
+uint64_t knobtangle_read_beacon(const uint8_t *content, size_t length);
+uint64_t knobtangle_rewrite_header(const uint8_t *frame, size_t length, uint8_t *out, size_t room);
+uint64_t knobtangle_rewrite_beacon(const uint8_t *content, size_t length, uint8_t *out, size_t room);
+uint64_t empty_read(const uint8_t *frame, size_t length);
+uint64_t empty_rewrite(const uint8_t *frame, size_t length, uint8_t *out, size_t room);
+
+typedef uint64_t reader(const uint8_t *, size_t);
+typedef uint64_t rewriter(const uint8_t *, size_t, uint8_t *, size_t);
+
+/* An answer of 1 to 999 is a length, from 1000 on a refusal. A corpus has no bytes of its own. */
+struct trial {
+    const char *name;
+    reader *read;
+    rewriter *rewrite;
+    const char *bytes;
+    size_t room;
+    uint64_t answer;
+};
+
+#define P7 "418807341201000200"
+#define P11 "090001ED0100000007"
+#define HEADER37 "09DC0734120102030405060708785611121314151617181D01000000212223242526272807"
+#define P12 "46CF81FF02003500"
+#define BEACON96 \
+    "46CF87550100100200210300320400430500540600650700767701000200030004000500060007000102030405060708" \
+    "111213141516171821222324252627283132333435363738414243444546474851525354555657586162636465666768"
+
+static const struct trial trials[] = {
+    {"empty-read", empty_read, 0, P7, 0, 0},
+    {"empty-rewrite", 0, empty_rewrite, P7, 40, 0},
+    {"read-P7", knobtangle_read_header, 0, P7, 0, 9},
+    {"read-P11", knobtangle_read_header, 0, P11, 0, 9},
+    {"read-37-bytes", knobtangle_read_header, 0, HEADER37, 0, 37},
+    {"read-1-empty", knobtangle_read_header, 0, "", 0, 1001},
+    {"read-1-P8", knobtangle_read_header, 0, "4188073412010002", 0, 1001},
+    {"read-2-P3", knobtangle_read_header, 0, "043000", 0, 1002},
+    {"read-3-P4", knobtangle_read_header, 0, "040000", 0, 1003},
+    {"read-4-P5", knobtangle_read_header, 0, "014000", 0, 1004},
+    {"read-5-P6", knobtangle_read_header, 0, "418000", 0, 1005},
+    {"rewrite-P7", 0, knobtangle_rewrite_header, P7, 40, 9},
+    {"rewrite-P11", 0, knobtangle_rewrite_header, P11, 40, 9},
+    {"rewrite-37-bytes", 0, knobtangle_rewrite_header, HEADER37, 40, 37},
+    {"rewrite-1-P7-room-8", 0, knobtangle_rewrite_header, P7, 8, 1001},
+    {"rewrite-6-P9", 0, knobtangle_rewrite_header, "41080734120100", 40, 1006},
+    {"beacon-read-P12", knobtangle_read_beacon, 0, P12, 0, 8},
+    {"beacon-read-96-bytes", knobtangle_read_beacon, 0, BEACON96, 0, 96},
+    {"beacon-read-1", knobtangle_read_beacon, 0, "FF0F00", 0, 1001},
+    {"beacon-rewrite-P12", 0, knobtangle_rewrite_beacon, P12, 100, 8},
+    {"beacon-rewrite-96-bytes", 0, knobtangle_rewrite_beacon, BEACON96, 100, 96},
+    {"beacon-rewrite-1-P12-room-7", 0, knobtangle_rewrite_beacon, P12, 7, 1001},
+    {"corpus-read", knobtangle_read_header, 0, 0, 0, 0},
+    {"corpus-rewrite", 0, knobtangle_rewrite_header, 0, 40, 0},
+    {"corpus-empty-read", empty_read, 0, 0, 0, 0},
+    {"corpus-empty-rewrite", 0, empty_rewrite, 0, 40, 0},
+};
+
+enum { FRAMES = 1000, LONGEST = 41, TRIALS = sizeof trials / sizeof trials[0] };
+
+static uint8_t corpus[FRAMES][LONGEST];
+static size_t lengths[FRAMES];
+
+static uint64_t state = 0x9e3779b97f4a7c15;
+
+static uint8_t draw(void)
+{
+    state ^= state << 13;
+    state ^= state >> 7;
+    state ^= state << 17;
+    return state >> 56;
+}
+
+/* As family 0 of oracle/FORMAT.md makes them: three in four mended, one in four cut short, one in four with a bit turned over. */
+static void make_corpus(void)
+{
+    for (int i = 0; i < FRAMES; i++) {
+        uint8_t mode = draw(), r = draw(), *frame = corpus[i];
+        for (int k = 0; k < 6; k++)
+            draw();
+        for (int k = 0; k < LONGEST; k++)
+            frame[k] = draw();
+        uint8_t place = draw(), bit = draw();
+        if (mode % 4 != 0) {
+            if (frame[0] % 8 == 4)
+                frame[0] -= 4;
+            if (frame[1] / 16 % 4 == 3)
+                frame[1] -= 32;
+            if (frame[1] / 4 % 4 == 1)
+                frame[1] += 4;
+            if (frame[1] / 64 == 1)
+                frame[1] += 64;
+        }
+        if (mode % 4 >= 2 && frame[0] / 64 % 2 == 1 && frame[1] / 4 % 4 == 0)
+            frame[1] += 8;
+        if (mode / 64 == 0)
+            frame[place % LONGEST] ^= 1 << bit % 8;
+        lengths[i] = mode / 4 % 4 == 0 ? r % 37 : 37 + r % 4;
+    }
+}
+
+static size_t bytes_of(const char *hex, uint8_t *out)
+{
+    size_t n = strlen(hex) / 2;
+    for (size_t i = 0; i < n; i++) {
+        char pair[3] = {hex[2 * i], hex[2 * i + 1], 0};
+        out[i] = (uint8_t)strtoul(pair, 0, 16);
+    }
+    return n;
+}
+
+/* The sum of the answers: kept, so that no call is saved, and not printed, so that a run costs no more than its calls. */
+static volatile uint64_t answers;
+
+static uint64_t call(const struct trial *t, const uint8_t *frame, size_t length, uint8_t *out)
+{
+    return t->read ? t->read(frame, length) : t->rewrite(frame, length, out, t->room);
+}
+
+static uint64_t run(const struct trial *t, long count)
+{
+    static uint8_t frame[128], out[128];
+    uint64_t sum = 0;
+    if (t->bytes) {
+        size_t length = bytes_of(t->bytes, frame);
+        for (long i = 0; i < count; i++)
+            sum += call(t, frame, length, out);
+    } else {
+        for (long i = 0; i < count; i++)
+            for (int k = 0; k < FRAMES; k++)
+                sum += call(t, corpus[k], lengths[k], out);
+    }
+    return sum;
+}
+
+/* Every answer as document 01 has it, 5 taken for 4; the sums over the corpus are printed. */
+static int check(void)
+{
+    int wrong = 0;
+    for (int i = 0; i < TRIALS; i++) {
+        uint64_t got = run(&trials[i], 1), want = trials[i].answer;
+        if (!trials[i].bytes) {
+            uint64_t accepted = 0;
+            for (int k = 0; k < FRAMES; k++) {
+                uint8_t out[64];
+                accepted += call(&trials[i], corpus[k], lengths[k], out) < 1000;
+            }
+            printf("%s accepted %llu of %d\n", trials[i].name, (unsigned long long)accepted, FRAMES);
+        } else if (got != want && !(want == 1005 && got == 1004)) {
+            printf("%s answers %llu, not %llu\n", trials[i].name, (unsigned long long)got, (unsigned long long)want);
+            wrong = 1;
+        }
+    }
+    return wrong;
+}
+
+int main(int argc, char **argv)
+{
+    make_corpus();
+    if (argc == 2 && !strcmp(argv[1], "check"))
+        return check();
+    if (argc == 2 && !strcmp(argv[1], "list")) {
+        for (int i = 0; i < TRIALS; i++)
+            if (!strstr(trials[i].name, "empty-"))
+                printf("%s\n", trials[i].name);
+        return 0;
+    }
+    for (int i = 0; argc == 3 && i < TRIALS; i++)
+        if (!strcmp(argv[1], trials[i].name)) {
+            answers = run(&trials[i], atol(argv[2]));
+            return 0;
+        }
+    fprintf(stderr, "usage: driver CASE COUNT, driver list, driver check\n");
+    return 2;
+}
