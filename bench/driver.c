@@ -15,7 +15,16 @@ uint64_t empty_rewrite(const uint8_t *frame, size_t length, uint8_t *out, size_t
 typedef uint64_t reader(const uint8_t *, size_t);
 typedef uint64_t rewriter(const uint8_t *, size_t, uint8_t *, size_t);
 
-/* An answer of 1 to 999 is a length, from 1000 on a refusal. A corpus has no bytes of its own. */
+enum { FRAMES = 1000, LONGEST = 100 };
+
+struct frame {
+    size_t length;
+    uint8_t bytes[LONGEST];
+};
+
+static struct frame headers[FRAMES], beacons[FRAMES];
+
+/* One frame in hex with its answer (1 to 999 a length, from 1000 on a refusal), or a corpus. */
 struct trial {
     const char *name;
     reader *read;
@@ -23,6 +32,7 @@ struct trial {
     const char *bytes;
     size_t room;
     uint64_t answer;
+    const struct frame *corpus;
 };
 
 #define P7 "418807341201000200"
@@ -34,38 +44,37 @@ struct trial {
     "111213141516171821222324252627283132333435363738414243444546474851525354555657586162636465666768"
 
 static const struct trial trials[] = {
-    {"empty-read", empty_read, 0, P7, 0, 0},
-    {"empty-rewrite", 0, empty_rewrite, P7, 40, 0},
-    {"read-P7", knobtangle_read_header, 0, P7, 0, 9},
-    {"read-P11", knobtangle_read_header, 0, P11, 0, 9},
-    {"read-37-bytes", knobtangle_read_header, 0, HEADER37, 0, 37},
-    {"read-1-empty", knobtangle_read_header, 0, "", 0, 1001},
-    {"read-1-P8", knobtangle_read_header, 0, "4188073412010002", 0, 1001},
-    {"read-2-P3", knobtangle_read_header, 0, "043000", 0, 1002},
-    {"read-3-P4", knobtangle_read_header, 0, "040000", 0, 1003},
-    {"read-4-P5", knobtangle_read_header, 0, "014000", 0, 1004},
-    {"read-5-P6", knobtangle_read_header, 0, "418000", 0, 1005},
-    {"rewrite-P7", 0, knobtangle_rewrite_header, P7, 40, 9},
-    {"rewrite-P11", 0, knobtangle_rewrite_header, P11, 40, 9},
-    {"rewrite-37-bytes", 0, knobtangle_rewrite_header, HEADER37, 40, 37},
-    {"rewrite-1-P7-room-8", 0, knobtangle_rewrite_header, P7, 8, 1001},
-    {"rewrite-6-P9", 0, knobtangle_rewrite_header, "41080734120100", 40, 1006},
-    {"beacon-read-P12", knobtangle_read_beacon, 0, P12, 0, 8},
-    {"beacon-read-96-bytes", knobtangle_read_beacon, 0, BEACON96, 0, 96},
-    {"beacon-read-1", knobtangle_read_beacon, 0, "FF0F00", 0, 1001},
-    {"beacon-rewrite-P12", 0, knobtangle_rewrite_beacon, P12, 100, 8},
-    {"beacon-rewrite-96-bytes", 0, knobtangle_rewrite_beacon, BEACON96, 100, 96},
-    {"beacon-rewrite-1-P12-room-7", 0, knobtangle_rewrite_beacon, P12, 7, 1001},
-    {"corpus-read", knobtangle_read_header, 0, 0, 0, 0},
-    {"corpus-rewrite", 0, knobtangle_rewrite_header, 0, 40, 0},
-    {"corpus-empty-read", empty_read, 0, 0, 0, 0},
-    {"corpus-empty-rewrite", 0, empty_rewrite, 0, 40, 0},
+    {"empty-read", empty_read, 0, P7, 0, 0, 0},
+    {"empty-rewrite", 0, empty_rewrite, P7, 40, 0, 0},
+    {"read-P7", knobtangle_read_header, 0, P7, 0, 9, 0},
+    {"read-P11", knobtangle_read_header, 0, P11, 0, 9, 0},
+    {"read-37-bytes", knobtangle_read_header, 0, HEADER37, 0, 37, 0},
+    {"read-1-empty", knobtangle_read_header, 0, "", 0, 1001, 0},
+    {"read-1-P8", knobtangle_read_header, 0, "4188073412010002", 0, 1001, 0},
+    {"read-2-P3", knobtangle_read_header, 0, "043000", 0, 1002, 0},
+    {"read-3-P4", knobtangle_read_header, 0, "040000", 0, 1003, 0},
+    {"read-4-P5", knobtangle_read_header, 0, "014000", 0, 1004, 0},
+    {"read-5-P6", knobtangle_read_header, 0, "418000", 0, 1005, 0},
+    {"rewrite-P7", 0, knobtangle_rewrite_header, P7, 40, 9, 0},
+    {"rewrite-P11", 0, knobtangle_rewrite_header, P11, 40, 9, 0},
+    {"rewrite-37-bytes", 0, knobtangle_rewrite_header, HEADER37, 40, 37, 0},
+    {"rewrite-1-P7-room-8", 0, knobtangle_rewrite_header, P7, 8, 1001, 0},
+    {"rewrite-6-P9", 0, knobtangle_rewrite_header, "41080734120100", 40, 1006, 0},
+    {"beacon-read-P12", knobtangle_read_beacon, 0, P12, 0, 8, 0},
+    {"beacon-read-96-bytes", knobtangle_read_beacon, 0, BEACON96, 0, 96, 0},
+    {"beacon-read-1", knobtangle_read_beacon, 0, "FF0F00", 0, 1001, 0},
+    {"beacon-rewrite-P12", 0, knobtangle_rewrite_beacon, P12, 100, 8, 0},
+    {"beacon-rewrite-96-bytes", 0, knobtangle_rewrite_beacon, BEACON96, 100, 96, 0},
+    {"beacon-rewrite-1-P12-room-7", 0, knobtangle_rewrite_beacon, P12, 7, 1001, 0},
+    {"corpus-headers-read", knobtangle_read_header, 0, 0, 0, 0, headers},
+    {"corpus-headers-rewrite", 0, knobtangle_rewrite_header, 0, 40, 0, headers},
+    {"corpus-beacons-read", knobtangle_read_beacon, 0, 0, 0, 0, beacons},
+    {"corpus-beacons-rewrite", 0, knobtangle_rewrite_beacon, 0, 100, 0, beacons},
+    {"corpus-empty-read", empty_read, 0, 0, 0, 0, headers},
+    {"corpus-empty-rewrite", 0, empty_rewrite, 0, 40, 0, headers},
 };
 
-enum { FRAMES = 1000, LONGEST = 41, TRIALS = sizeof trials / sizeof trials[0] };
-
-static uint8_t corpus[FRAMES][LONGEST];
-static size_t lengths[FRAMES];
+enum { TRIALS = sizeof trials / sizeof trials[0] };
 
 static uint64_t state = 0x9e3779b97f4a7c15;
 
@@ -77,32 +86,53 @@ static uint8_t draw(void)
     return state >> 56;
 }
 
-/* As family 0 of oracle/FORMAT.md makes them: three in four mended, one in four cut short, one in four with a bit turned over. */
-static void make_corpus(void)
+static size_t extent(unsigned choice, uint8_t drawn, unsigned most)
 {
-    for (int i = 0; i < FRAMES; i++) {
-        uint8_t mode = draw(), r = draw(), *frame = corpus[i];
-        for (int k = 0; k < 6; k++)
-            draw();
-        for (int k = 0; k < LONGEST; k++)
-            frame[k] = draw();
-        uint8_t place = draw(), bit = draw();
-        if (mode % 4 != 0) {
-            if (frame[0] % 8 == 4)
-                frame[0] -= 4;
-            if (frame[1] / 16 % 4 == 3)
-                frame[1] -= 32;
-            if (frame[1] / 4 % 4 == 1)
-                frame[1] += 4;
-            if (frame[1] / 64 == 1)
-                frame[1] += 64;
-        }
-        if (mode % 4 >= 2 && frame[0] / 64 % 2 == 1 && frame[1] / 4 % 4 == 0)
-            frame[1] += 8;
-        if (mode / 64 == 0)
-            frame[place % LONGEST] ^= 1 << bit % 8;
-        lengths[i] = mode / 4 % 4 == 0 ? r % 37 : 37 + r % 4;
+    return choice % 4 == 0 ? drawn % most : most + drawn % 4;
+}
+
+/* As family 0 of oracle/FORMAT.md makes them: three in four mended, one in four cut short, one in four with a bit turned over. */
+static void make_header(struct frame *f)
+{
+    uint8_t mode = draw(), r = draw(), *bytes = f->bytes;
+    for (int k = 0; k < 6; k++)
+        draw();
+    for (int k = 0; k < 41; k++)
+        bytes[k] = draw();
+    uint8_t place = draw(), bit = draw();
+    if (mode % 4 != 0) {
+        if (bytes[0] % 8 == 4)
+            bytes[0] -= 4;
+        if (bytes[1] / 16 % 4 == 3)
+            bytes[1] -= 32;
+        if (bytes[1] / 4 % 4 == 1)
+            bytes[1] += 4;
+        if (bytes[1] / 64 == 1)
+            bytes[1] += 64;
     }
+    if (mode % 4 >= 2 && bytes[0] / 64 % 2 == 1 && bytes[1] / 4 % 4 == 0)
+        bytes[1] += 8;
+    if (mode / 64 == 0)
+        bytes[place % 41] ^= 1 << bit % 8;
+    f->length = extent(mode / 4, r, 37);
+}
+
+/* As family 1 makes them: any bytes, one in four cut short. */
+static void make_beacon(struct frame *f)
+{
+    uint8_t mode = draw(), r = draw();
+    draw();
+    for (int k = 0; k < 100; k++)
+        f->bytes[k] = draw();
+    f->length = extent(mode, r, 96);
+}
+
+static void make_corpora(void)
+{
+    for (int i = 0; i < FRAMES; i++)
+        make_header(&headers[i]);
+    for (int i = 0; i < FRAMES; i++)
+        make_beacon(&beacons[i]);
 }
 
 static size_t bytes_of(const char *hex, uint8_t *out)
@@ -134,12 +164,12 @@ static uint64_t run(const struct trial *t, long count)
     } else {
         for (long i = 0; i < count; i++)
             for (int k = 0; k < FRAMES; k++)
-                sum += call(t, corpus[k], lengths[k], out);
+                sum += call(t, t->corpus[k].bytes, t->corpus[k].length, out);
     }
     return sum;
 }
 
-/* Every answer as document 01 has it, 5 taken for 4; the sums over the corpus are printed. */
+/* Every answer as document 01 has it, 4 taken for 5; how much of a corpus is accepted is printed. */
 static int check(void)
 {
     int wrong = 0;
@@ -148,8 +178,9 @@ static int check(void)
         if (!trials[i].bytes) {
             uint64_t accepted = 0;
             for (int k = 0; k < FRAMES; k++) {
-                uint8_t out[64];
-                accepted += call(&trials[i], corpus[k], lengths[k], out) < 1000;
+                uint8_t out[128];
+                const struct frame *f = &trials[i].corpus[k];
+                accepted += call(&trials[i], f->bytes, f->length, out) < 1000;
             }
             printf("%s accepted %llu of %d\n", trials[i].name, (unsigned long long)accepted, FRAMES);
         } else if (got != want && !(want == 1005 && got == 1004)) {
@@ -162,7 +193,7 @@ static int check(void)
 
 int main(int argc, char **argv)
 {
-    make_corpus();
+    make_corpora();
     if (argc == 2 && !strcmp(argv[1], "check"))
         return check();
     if (argc == 2 && !strcmp(argv[1], "list")) {

@@ -25,6 +25,7 @@ pub const SUITES: &[Suite] = &[
     Suite { name: "beacons", what: "512 counts of a beacon, every cut and room", make: beacons },
     Suite { name: "views", what: "65,536 frame controls with a payload; beacons cut", make: views },
     Suite { name: "places", what: "every kind at every place, past the end too", make: places },
+    Suite { name: "long", what: "inputs of 100 to 500 bytes, every kind", make: long },
     Suite { name: "headers", what: "header records that no reader makes, every room", make: header_records },
     Suite { name: "parts", what: "records of the parts, every room", make: part_records },
     Suite { name: "eight", what: "records that are refused with 8", make: eight },
@@ -310,6 +311,21 @@ fn places(take: &mut Take) {
     }
 }
 
+fn long(take: &mut Take) {
+    for length in 100..=500 {
+        let mut input = filler(length);
+        input[0] = 0x69;
+        input[1] = 0xec;
+        for kind in *b"hscnaxfegqb" {
+            command(take, kind, 0, room(100), &input);
+            command(take, kind, length - 40, room(256), &input);
+        }
+        take(b'p', &input);
+        input[0] = 0x40;
+        take(b'p', &input);
+    }
+}
+
 fn address(mode: u8, pan: u16) -> Vec<u8> {
     let mut spelled = vec![0; 11];
     spelled[0] = mode;
@@ -478,8 +494,12 @@ fn part_records(take: &mut Take) {
     for counts in 0..512 {
         let (count, short, extended) = (counts % 8, counts / 8 % 8, counts / 64);
         let half = (counts % 16) as u8;
-        let record =
-            [superframe(order(half), order(15 - half), half, half % 8), slots_record(1, count, 0x2d), pending_record(short, extended)].concat();
+        let record = [
+            superframe(order(half), order(15 - half), half, half % 8),
+            slots_record(1, count, 0x2d),
+            pending_record(short, extended),
+        ]
+        .concat();
         let whole = 3 + if count == 0 { 0 } else { 1 + 3 * count } + 1 + 2 * short + 8 * extended;
         for space in 0..=whole + 1 {
             command(take, b'B', 0, room(space), &record);

@@ -155,12 +155,7 @@ impl Part for Descriptor {
     }
 
     fn build(spelled: &[u8]) -> Option<Descriptor> {
-        Some(Descriptor {
-            address: number(&spelled[..2]),
-            start: spelled[2],
-            length: spelled[3],
-            transmit: spelled[4] == 1,
-        })
+        Some(Descriptor { address: number(&spelled[..2]), start: spelled[2], length: spelled[3], transmit: spelled[4] == 1 })
     }
 
     fn write(record: Descriptor, _: Option<u32>, buffer: &mut [u8], place: usize) -> Option<Result<usize, Number>> {

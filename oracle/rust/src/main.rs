@@ -10,9 +10,7 @@ use ieee802154::mac::beacon::{
     SuperframeSpecification,
 };
 use ieee802154::mac::frame::security::default::Unimplemented;
-use ieee802154::mac::security::{
-    AuxiliarySecurityHeader, KeyIdentifier, KeySource, SecurityContext, SecurityControl,
-};
+use ieee802154::mac::security::{AuxiliarySecurityHeader, KeyIdentifier, KeySource, SecurityContext, SecurityControl};
 use ieee802154::mac::{
     Address, AddressMode, ExtendedAddress, FooterMode, Frame, FrameContent, FrameType, FrameVersion, Header, PanId, ShortAddress,
 };
@@ -334,12 +332,7 @@ impl Part for SuperframePart {
         })
     }
 
-    fn write(
-        record: SuperframeSpecification,
-        _: Option<u32>,
-        buffer: &mut [u8],
-        place: usize,
-    ) -> Option<Result<usize, Number>> {
+    fn write(record: SuperframeSpecification, _: Option<u32>, buffer: &mut [u8], place: usize) -> Option<Result<usize, Number>> {
         write_at(record, (), buffer, place)
     }
 }

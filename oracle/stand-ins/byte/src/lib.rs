@@ -79,7 +79,8 @@ pub mod ctx {
 
     pub const LE: Endian = Endian::Little;
     pub const BE: Endian = Endian::Big;
-    pub const NATIVE: Endian = if cfg!(target_endian = "little") { LE } else { BE };
+    /// The machine's order; turned round on demand, to find out which fields are left to it.
+    pub const NATIVE: Endian = if cfg!(target_endian = "little") != cfg!(turned) { LE } else { BE };
 
     /// Where no order is named: the machine's.
     impl Default for Endian {
