@@ -90,6 +90,7 @@ module _ (s out : List ℕ) (b : Bytes s) (read : readBeacon s 0 .outcome .numbe
   trip = beacon-rewritten s 0 content size b answer
 
   plain : (beaconTooLarge content ≡ false) × (beaconSize content ≡ size)
+  unfolding writeBeacon
   plain = free (beaconTooLarge content) s 0 (beaconSize content) size (trip .accepted s 0 (trip .within))
 
   pub beacon-outcome : valueOutcome (writeBeacon content out 0) ≡ rewriteBeacon s out
