@@ -284,6 +284,7 @@ static unsigned long seen[4][9], calls;
 
 static uint64_t state = 0x9e3779b97f4a7c15u;
 
+/* A number below another. No two calls stand in one expression, so every compiler makes the same frames. */
 static size_t any(size_t below)
 {
     state ^= state << 13;
@@ -448,7 +449,7 @@ static void try_lengths(const byte *bytes, size_t n)
     beacon = beacon < REFUSED ? beacon : 4;
     for (size_t length = 0; length <= n; length++)
         for (size_t room = 0; room <= header + 1 || room <= beacon + 1; room++)
-            try_all(bytes, length, room <= header + 1 ? room : any(header + 2), room <= beacon + 1 ? room : any(beacon + 2));
+            try_all(bytes, length, room, room);
 }
 
 static size_t try_rows(void)
@@ -529,9 +530,9 @@ static void try_forms(void)
         bytes[pending] = (byte)((bytes[pending] & 0x88) | (form >> 3 & 7) | (form >> 6) << 4);
         size_t n = expect_beacon(bytes, MOST).read;
         for (size_t length = 0; length <= n + 1; length++)
-            try_all(bytes, length, any(MOST), any(4) == 0 ? any(MOST) : n);
+            try_all(bytes, length, any(MOST), n);
         for (size_t room = 0; room <= n + 1; room++)
-            try_all(bytes, n + any(2), any(MOST), room);
+            try_all(bytes, n, any(MOST), room);
     }
 }
 
@@ -571,7 +572,7 @@ static void try_long(void)
         if (i % 2 != 0)
             from_hex(bytes, "41 88 07 34 12 01 00 02 00");
         try_all(bytes, EDGE, EDGE, EDGE);
-        try_all(bytes, EDGE - any(2), any(40), any(100));
+        try_all(bytes, EDGE - i % 2, i % 40, i % 100);
     }
 }
 
@@ -580,12 +581,13 @@ static void try_long(void)
 /* A header of known type, version and modes, in most of its bits any; its length. */
 static size_t any_header(byte *bytes)
 {
-    static const byte modes[] = {0, 2, 3};
+    static const size_t modes[] = {0, 2, 3};
 
     any_bytes(bytes, MOST);
     if ((bytes[0] & 7) == 4)
         bytes[0] ^= (byte)(1 + any(3));
-    bytes[1] = (byte)((bytes[1] & 3) | modes[any(3)] << 2 | any(3) << 4 | modes[any(3)] << 6);
+    size_t to = any(3), from = any(3), version = any(3);
+    bytes[1] = (byte)((bytes[1] & 3u) | modes[to] << 2 | version << 4 | modes[from] << 6);
     size_t n = expect_header(bytes, MOST).read;
     return n < REFUSED ? n : 3;
 }
@@ -597,8 +599,10 @@ static size_t damaged(byte *bytes, size_t n)
 
     switch (any(3)) {
     case 0:
-        for (size_t i = 0, flips = 1 + any(3); i < flips; i++)
-            bytes[any(n)] ^= (byte)(1u << any(8));
+        for (size_t i = 0; i <= at % 3; i++) {
+            size_t bit = any(8 * n);
+            bytes[bit / 8] ^= (byte)(1u << bit % 8);
+        }
         return n;
     case 1:
         memmove(bytes + at, bytes + at + 1, n - at - 1);
@@ -619,12 +623,14 @@ static size_t any_frame(byte *bytes)
         return any(48);
     case 1:
     case 2:
-        return any_header(bytes) + any(8);
+        n = any_header(bytes);
+        return n + any(8);
     case 3:
         return any(any_header(bytes) + 1);
     case 4:
     case 5:
-        return damaged(bytes, any_header(bytes) + any(8));
+        n = any_header(bytes);
+        return damaged(bytes, n + any(8));
     case 6:
         any_bytes(bytes, MOST);
         n = expect_beacon(bytes, MOST).read + any(3);
@@ -661,7 +667,9 @@ static void try_frames(unsigned long count)
 
     for (unsigned long i = 0; i < count; i++) {
         size_t n = any_frame(bytes);
-        try_all(bytes, n, any_room(expect_header(bytes, n).read), any_room(expect_beacon(bytes, n).read));
+        size_t header_room = any_room(expect_header(bytes, n).read);
+        size_t beacon_room = any_room(expect_beacon(bytes, n).read);
+        try_all(bytes, n, header_room, beacon_room);
     }
 }
 
