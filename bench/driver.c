@@ -1,5 +1,6 @@
 /* Calls one entry on one frame, or on a corpus, many times. Told are the instructions by which a run grows for each call, less those of an empty call.
-   usage: driver CASE COUNT, driver list, driver check */
+   Also tells what the four entries answer on blocks of frames, so that two archives can be held beside each other.
+   usage: driver CASE COUNT, driver list, driver check, driver answers [BLOCK] */
 #include <stdint.h>
 #include <stdio.h>
 #include <stdlib.h>
@@ -135,6 +136,77 @@ static void make_corpora(void)
         make_beacon(&beacons[i]);
 }
 
+/* Blocks of random and damaged headers and beacons; then, for each length from 0 to LAST, every frame control before random bytes. */
+enum { BLOCKS = 1024, LAST = 41, CONTROLS = 65536, OUT = 128, BEFORE = 0xa5 };
+
+static uint64_t digest;
+
+static void take(uint64_t n) { digest = (digest ^ n) * 0x100000001b3; }
+
+/* The Rust has one name for 4 and 5. */
+static uint64_t told(uint64_t answer) { return answer == 1005 ? 1004 : answer; }
+
+/* What reading and rewriting answer, and the whole buffer after an accepted rewriting. */
+static void answer(const struct frame *f, size_t room, reader *read, rewriter *rewrite, int spelled)
+{
+    uint8_t out[OUT];
+    memset(out, BEFORE, OUT);
+    uint64_t length = told(read(f->bytes, f->length)), written = told(rewrite(f->bytes, f->length, out, room));
+    take(length);
+    take(written);
+    for (int k = 0; k < OUT && written < 1000; k++)
+        take(out[k]);
+    if (!spelled)
+        return;
+    for (size_t k = 0; k < f->length; k++)
+        printf("%02x", f->bytes[k]);
+    printf(" room %zu: %llu, %llu ", room, (unsigned long long)length, (unsigned long long)written);
+    for (int k = 0; k < OUT && written < 1000; k++)
+        printf("%02x", out[k]);
+    printf("\n");
+}
+
+static void answer_header(const struct frame *f, int spelled)
+{
+    size_t room = draw() % 4 == 0 ? draw() % 40 : 40;
+    answer(f, room, knobtangle_read_header, knobtangle_rewrite_header, spelled);
+}
+
+static void answer_beacon(const struct frame *f, int spelled)
+{
+    size_t room = draw() % 4 == 0 ? draw() % 100 : 100;
+    answer(f, room, knobtangle_read_beacon, knobtangle_rewrite_beacon, spelled);
+}
+
+static void answer_block(uint64_t block, int spelled)
+{
+    struct frame f;
+    state = 0x9e3779b97f4a7c15 * (2 * block + 1);
+    digest = 0xcbf29ce484222325;
+    for (int i = 0; block < BLOCKS && i < FRAMES; i++) {
+        make_header(&f);
+        answer_header(&f, spelled);
+        make_beacon(&f);
+        answer_beacon(&f, spelled);
+    }
+    for (uint32_t control = 0; block >= BLOCKS && control < CONTROLS; control++) {
+        make_header(&f);
+        f.bytes[0] = (uint8_t)control;
+        f.bytes[1] = (uint8_t)(control >> 8);
+        f.length = block - BLOCKS;
+        answer_header(&f, spelled);
+    }
+}
+
+/* A digest for each block. */
+static void answer_all(void)
+{
+    for (uint64_t block = 0; block <= BLOCKS + LAST; block++) {
+        answer_block(block, 0);
+        printf("%llu %016llx\n", (unsigned long long)block, (unsigned long long)digest);
+    }
+}
+
 static size_t bytes_of(const char *hex, uint8_t *out)
 {
     size_t n = strlen(hex) / 2;
@@ -196,6 +268,14 @@ int main(int argc, char **argv)
     make_corpora();
     if (argc == 2 && !strcmp(argv[1], "check"))
         return check();
+    if (argc == 2 && !strcmp(argv[1], "answers")) {
+        answer_all();
+        return 0;
+    }
+    if (argc == 3 && !strcmp(argv[1], "answers")) {
+        answer_block(strtoull(argv[2], 0, 10), 1);
+        return 0;
+    }
     if (argc == 2 && !strcmp(argv[1], "list")) {
         for (int i = 0; i < TRIALS; i++)
             if (!strstr(trials[i].name, "empty-"))
@@ -207,6 +287,6 @@ int main(int argc, char **argv)
             answers = run(&trials[i], atol(argv[2]));
             return 0;
         }
-    fprintf(stderr, "usage: driver CASE COUNT, driver list, driver check\n");
+    fprintf(stderr, "usage: driver CASE COUNT, driver list, driver check, driver answers [BLOCK]\n");
     return 2;
 }
