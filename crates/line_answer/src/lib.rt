@@ -52,7 +52,7 @@ fn put_bad(out: &mut [u8], at: usize) -> usize
     at + 4
 }
 
-// Stores the answer to a line that is not bad, from its label and its bytes.
+// Stores the answer to a line that is not bad, from its label and its bytes. Asks for room: the label and six bytes.
 pub fn put_good(label: &[u8], frame: &[u8], out: &mut [u8], at: usize) -> usize
     requires { ⌜ at + length (now label) + 6 ≤ length (now out) ⌝ }
     ensures { λ r. ⌜ Stored (now (out .entry)) at (now (label .entry) ++ told (readOutcome (readHeader (now (frame .entry))))) (now (out .exit)) r ⌝ }
@@ -64,7 +64,7 @@ pub fn put_good(label: &[u8], frame: &[u8], out: &mut [u8], at: usize) -> usize
     put_told(outcome, out, next)
 }
 
-// Stores the answer to a line, given without its line feed.
+// Stores the answer to a line, given without its line feed. Asks for room: the line and five bytes.
 pub fn put_answer(line: &[u8], out: &mut [u8], at: usize) -> usize
     requires { ⌜ at + length (now line) + 5 ≤ length (now out) ⌝ }
     ensures { λ r. ⌜ Stored (now (out .entry)) at (answer (now (line .entry))) (now (out .exit)) r ⌝ }

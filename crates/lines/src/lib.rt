@@ -107,7 +107,8 @@ fn put_next(
 }
 
 // A chunk of the input, of any length: stores the answers to the lines that end in it, from the beginning of out, and keeps what has come
-// of the next line, its first 1,025 bytes. Asks for room: five bytes for each of the chunk, and 1,025.
+// of the next line, its first 1,025 bytes. Asks for a line of 1,025 bytes with at most as many in use, and for room: five bytes for each
+// of the chunk, and 1,025.
 pub fn feed(chunk: &[u8], line: &mut [u8], n: usize, out: &mut [u8]) -> Fed
     requires { ⌜ (n ≤ 1025) × (length (now line) ≡ 1025) × (1025 + 5 * length (now chunk) ≤ length (now out)) ⌝ }
     ensures { λ r. ⌜ record { out = now (out .exit); used = r .used; kept = take (r .n) (now (line .exit)) } ≡ fedTo (take n (now (line .entry))) (now (chunk .entry)) (now (out .entry)) 0 ⌝ }
@@ -126,7 +127,7 @@ pub fn feed(chunk: &[u8], line: &mut [u8], n: usize, out: &mut [u8]) -> Fed
     Fed { n: held, used }
 }
 
-// The end of the input: stores the answer to a last line that was not ended.
+// The end of the input: stores the answer to a last line that was not ended. Asks that its n bytes are there, and for room: them and five.
 pub fn finish(line: &[u8], n: usize, out: &mut [u8]) -> usize
     requires { ⌜ (n ≤ length (now line)) × (n + 5 ≤ length (now out)) ⌝ }
     ensures { λ r. ⌜ Stored (now (out .entry)) 0 (answers (last (take n (now (line .entry))))) (now (out .exit)) r ⌝ }
