@@ -8,6 +8,7 @@ ghost use Rattle.gateway.specs.Rewrite.{rewriteHeader, headerInto, rewri
 use beacon::Beacon;
 use header::Header;
 use header::HeaderRead;
+use header_measure::measure_header;
 use octets::Outcome;
 
 fn code(outcome: Outcome) -> usize
@@ -25,7 +26,7 @@ fn code(outcome: Outcome) -> usize
 pub extern "C" fn knobtangle_read_header(frame: &[u8]) -> usize
     ensures { λ r. ⌜ r ≡ codeOf (readOutcome (readHeader (now (frame .entry)))) ⌝ }
 {
-    code(Header::read(frame).outcome())
+    code(measure_header(frame))
 }
 
 // Reads the beacon at the beginning of a beacon frame's content, which begins where its header ends.

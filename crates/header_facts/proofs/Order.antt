@@ -10,15 +10,19 @@ use mathlib.Core.Path.{_≡_, refl, sym, ap, _∙_}
 use borrow.Author.Tests.{lt-ltb, le-ltb, ltb-true, ltb-false}
 use lib.Dec.{ltb, eqb}
 use lib.ListN.{length}
-use Rattle.octets.specs.Bits.{bits}
+use Rattle.octets.specs.declared.Outcome.{Outcome}
+use Rattle.octets.specs.Bits.{bits, bit}
 use Rattle.octets.specs.Little.{number}
 use Rattle.octets.specs.Order.{first}
+use Rattle.octets.specs.Outcome.{accepted}
 use Rattle.octets.specs.Part.{ends}
 use Rattle.octets.proofs.Order.{cases, holds?, first-map}
 use Rattle.frame_control.specs.declared.AddressMode.{AddressMode}
 use Rattle.frame_control.specs.declared.AddressMode.the-variants as Mode
 use Rattle.frame_control.specs.declared.AddressModeRead.the-variants as ModeRead
 use Rattle.frame_control.specs.declared.FrameControl.{FrameControl}
+use Rattle.frame_control.specs.declared.FrameControlRead.the-variants as Control
+use Rattle.frame_control.specs.declared.FrameControlRefusal.{FrameControlRefusal}
 use Rattle.frame_control.specs.declared.FrameType.{FrameType}
 use Rattle.frame_control.specs.declared.FrameType.the-variants as Kind
 use Rattle.frame_control.specs.declared.FrameTypeRead.the-variants as TypeRead
@@ -45,7 +49,7 @@ use Rattle.header.specs.Record.{headerLength}
 use Rattle.header.specs.Read.{unshared, destinationEnd, sourceEnd, securityPart, part?, readRest, readFields, readHeader, readOutcome}
 use Rattle.header.specs.Write.{writeHeader, writtenOutcome}
 use Rattle.header.specs.Write as write
-use Rattle.header_facts.specs.Order.{addressSize, securitySize, readTests, writeTests}
+use Rattle.header_facts.specs.Order.{addressSize, securitySize, fromEnd, wholeEnd, readTests, answered, writeTests}
 
 -- Writing: the definition is such a list already.
 pub write-in-order : (h : Header) (counter : OptionalCounter) (room : ℕ) → writtenOutcome (writeHeader h counter room) .number ≡ first (writeTests h counter room) 0
@@ -74,7 +78,7 @@ type-case (suc (suc (suc (suc (suc (suc (suc zero))))))) h = inr (Kind.Extended,
 type-case (suc (suc (suc (suc (suc (suc (suc (suc n)))))))) h = absurd (omega arith)
 
 -- what a listed mode's number says: whether there is an address, and its size with and without a PAN id
-abbrev none : AddressMode → Bool
+abbrev pub none : AddressMode → Bool
 none Mode.None = true
 none Mode.Short = false
 none Mode.Extended = false
@@ -120,18 +124,18 @@ shifted l at n h =
     (λ f. let enough : n ≤ l - at = ltb-false (l - at) n f in f ∙ sym (le-ltb l (at + n) (omega arith)))
 
 -- The security part: refused with 1 exactly when its bytes are not all there.
-part-number : (s : List ℕ) (at : ℕ) (on : Bool) (make : OptionalSecurityHeader → Header) → at ≤ length s →
-    readOutcome (part? (securityPart s at on) (Refused Ended) (λ k end. Read (make k) end)) .number
-    ≡ cond (ltb (length s) (cond on (at + securitySize (bits (number s at 1) 3 2)) at)) 1 0
+part-answered : (s : List ℕ) (at : ℕ) (on : Bool) (make : OptionalSecurityHeader → Header) → at ≤ length s →
+    readOutcome (part? (securityPart s at on) (Refused Ended) (λ k end. Read (make k) end))
+    ≡ answered ((ltb (length s) (cond on (at + securitySize (bits (number s at 1) 3 2)) at), 1) ∷ []) (cond on (at + securitySize (bits (number s at 1) 3 2)) at)
 unfolding securityPart readSecurity
-part-number s at false make h = simp (le-ltb (length s) at h)
-part-number s at true make h =
+part-answered s at false make h = simp (le-ltb (length s) at h)
+part-answered s at true make h =
     let size : lengthIn s at ≡ securitySize (bits (number s at 1) 3 2) = key-case (bits (number s at 1) 3 2) (omega arith) in
     let same : ends s at (lengthIn s at) ≡ ltb (length s) (at + securitySize (bits (number s at 1) 3 2)) =
     shifted (length s) at (lengthIn s at) h ∙ ap (λ (n : ℕ). ltb (length s) (at + n)) size in
     cases (holds? (ltb (length s) (at + securitySize (bits (number s at 1) 3 2))))
     (λ t. simp (same ∙ t, t))
-    (λ f. simp (same ∙ f, f))
+    (λ f. simp (same ∙ f, f) (ap (λ (n : ℕ). accepted (at + n)) size))
 
 module _ (s : List ℕ) (c : FrameControl) (to from : ℕ) (p : Sized to (c .destination)) (q : Sized from (c .source)) where
   abbrev to-end : ℕ
@@ -140,16 +144,19 @@ module _ (s : List ℕ) (c : FrameControl) (to from : ℕ) (p : Sized to (c .des
   abbrev from-end : ℕ
   from-end = to-end + addressSize (c .«pan_id_compress») from
 
-  fields-in-order : readOutcome (readFields s c) .number
-      ≡ first
+  abbrev whole-end : ℕ
+  whole-end = cond (c .security) (from-end + securitySize (bits (number s from-end 1) 3 2)) from-end
+
+  fields-answered : readOutcome (readFields s c)
+      ≡ answered
       ((ltb (length s) to-end, 1) ∷
       (cond (c .«pan_id_compress») (eqb to 0) false, 5) ∷
       (ltb (length s) from-end, 1) ∷
-      (ltb (length s) (cond (c .security) (from-end + securitySize (bits (number s from-end 1) 3 2)) from-end), 1) ∷
+      (ltb (length s) whole-end, 1) ∷
       [])
-      0
+      whole-end
   unfolding readFields readRest
-  fields-in-order =
+  fields-answered =
       let bare : addressSize (c .«pan_id_compress») from ≡ modeLength (not (c .«pan_id_compress»)) (c .source) = sized from (c .source) (c .«pan_id_compress») q in
       let nothing : cond (c .«pan_id_compress») (eqb to 0) false ≡ unshared (c .«pan_id_compress») (c .destination) =
       ap (λ (b : Bool). cond (c .«pan_id_compress») b false) (p .nothing) ∙ nobody (c .«pan_id_compress») (c .destination) in
@@ -157,12 +164,12 @@ module _ (s : List ℕ) (c : FrameControl) (to from : ℕ) (p : Sized to (c .des
       cases (holds? (unshared (c .«pan_id_compress») (c .destination))) (λ t. simp (p .full, destination, nothing ∙ t, t)) (λ shared.
       cases (holds? (ltb (length s) (sourceEnd c))) (λ t. simp (p .full, bare, destination, nothing ∙ shared, shared, t)) (λ source.
       simp (p .full, bare, destination, nothing ∙ shared, shared, source)
-      (part-number s (sourceEnd c) (c .security) _ (ltb-false (length s) (sourceEnd c) source)))))
+      (part-answered s (sourceEnd c) (c .security) _ (ltb-false (length s) (sourceEnd c) source)))))
 
--- Reading.
-pub read-in-order : (s : List ℕ) → readOutcome (readHeader s) .number ≡ first (readTests s (number s 0 2)) 0
+-- Reading: number and length are what the tests answer.
+pub read-answered : (s : List ℕ) → readOutcome (readHeader s) ≡ answered (readTests s (number s 0 2)) (wholeEnd s (number s 0 2))
 unfolding readHeader controlIn
-read-in-order s =
+read-answered s =
     let w = number s 0 2 in
     cases (holds? (ltb (length s) 3)) (λ t. simp t) (λ three.
     cases (version-case (bits w 12 2) (omega arith)) (λ v. simp (three, v .0, v .1)) (λ v.
@@ -170,4 +177,45 @@ read-in-order s =
     cases (mode-case (bits w 10 2) (omega arith)) (λ d. simp (three, v .1, v .2, t .1, t .2, d .0, d .1)) (λ d.
     cases (mode-case (bits w 14 2) (omega arith)) (λ m. simp (three, v .1, v .2, t .1, t .2, d .1 .is, d .1 .known, m .0, m .1)) (λ m.
     simp (three, v .1, v .2, t .1, t .2, d .1 .is, d .1 .known, m .1 .is, m .1 .known)
-    (fields-in-order s (controlOf w (t .0) (d .0) (v .0) (m .0)) (bits w 10 2) (bits w 14 2) (d .1) (m .1)))))))
+    (fields-answered s (controlOf w (t .0) (d .0) (v .0) (m .0)) (bits w 10 2) (bits w 14 2) (d .1) (m .1)))))))
+
+answered-number : (tests : List (Bool × ℕ)) (n : ℕ) → answered tests n .number ≡ first tests 0
+answered-number [] n = refl
+answered-number ((true, k) ∷ rest) n = refl
+answered-number ((false, k) ∷ rest) n = answered-number rest n
+
+pub read-in-order : (s : List ℕ) → readOutcome (readHeader s) .number ≡ first (readTests s (number s 0 2)) 0
+read-in-order s =
+    ap (λ (o : Outcome). o .number) (read-answered s) ∙ answered-number (readTests s (number s 0 2)) (wholeEnd s (number s 0 2))
+
+-- What a frame control that was read says by the numbers of its bits.
+pub record Known (w : ℕ) (c : FrameControl) : Type 0 where
+  pub security : c .security ≡ bit w 3
+  pub compress : c .«pan_id_compress» ≡ bit w 6
+  pub places : sourceEnd c ≡ fromEnd w
+  pub sourceless : eqb (bits w 14 2) 0 ≡ none (c .source)
+
+never : (r : FrameControlRefusal) (c : FrameControl) → Control.Refused r ≡ Control.Read c → ⊥
+never r c e = let z : _≡_ {A = ℕ} 0 1 = cc in omega arith
+
+known-of : (w : ℕ) (kind : FrameType) (d : AddressMode) (v : FrameVersion) (m : AddressMode) → Sized (bits w 10 2) d → Sized (bits w 14 2) m →
+    Known w (controlOf w kind d v m)
+known-of w kind d v m p q = record {
+  security = refl;
+  compress = refl;
+  places = rw (p .full, sized (bits w 14 2) m (bit w 6) q);
+  sourceless = q .nothing;
+}
+
+same-control : (c d : FrameControl) → Control.Read c ≡ Control.Read d → c ≡ d
+same-control c d e = cc
+
+pub control-known : (w : ℕ) (c : FrameControl) → controlIn w ≡ Control.Read c → Known w c
+unfolding controlIn
+control-known w c e =
+    cases (version-case (bits w 12 2) (omega arith)) (λ v. absurd (never _ c (simp (v .0) at e))) (λ v.
+    cases (type-case (w % 8) (omega arith)) (λ t. absurd (never _ c (simp (v .1, t .0) at e))) (λ t.
+    cases (mode-case (bits w 10 2) (omega arith)) (λ d. absurd (never _ c (simp (v .1, t .1, d .0) at e))) (λ d.
+    cases (mode-case (bits w 14 2) (omega arith)) (λ m. absurd (never _ c (simp (v .1, t .1, d .1 .is, m .0) at e))) (λ m.
+    let same : controlOf w (t .0) (d .0) (v .0) (m .0) ≡ c = same-control _ c (simp (v .1, t .1, d .1 .is, m .1 .is) at e) in
+    rw same at (known-of w (t .0) (d .0) (v .0) (m .0) (d .1) (m .1))))))

@@ -5,8 +5,10 @@ use mathlib.Core.Bool.{Bool, false, cond}
 use mathlib.Core.List.{List, [], _∷_}
 use lib.Dec.{eqb, ltb}
 use lib.ListN.{length}
+use Rattle.octets.specs.declared.Outcome.{Outcome}
 use Rattle.octets.specs.Bits.{bits, bit, find}
 use Rattle.octets.specs.Little.{number}
+use Rattle.octets.specs.Outcome.{accepted, refused}
 use Rattle.security.specs.declared.OptionalCounter.{OptionalCounter}
 use Rattle.security.specs.Optional.{levelTooLarge}
 use Rattle.header.specs.declared.Header.{Header}
@@ -32,7 +34,15 @@ fromEnd w = toEnd w + addressSize (bit w 6) (bits w 14 2)
 abbrev pub wholeEnd : List ℕ → ℕ → ℕ
 wholeEnd s w = cond (bit w 3) (fromEnd w + securitySize (bits (number s (fromEnd w) 1) 3 2)) (fromEnd w)
 
--- Reading: 1 below three bytes; 2; 3; 4 destination; 4 source; 1 destination; 5; 1 source; 1 security part.
+-- Reading: 1 below three bytes; 2; 3; 4 destination; 4 source; and behind the frame control 1 destination; 5; 1 source; 1 security part.
+abbrev pub fieldTests : List ℕ → ℕ → List (Bool × ℕ)
+fieldTests s w =
+    (ltb (length s) (toEnd w), 1) ∷
+    (cond (bit w 6) (eqb (bits w 10 2) 0) false, 5) ∷
+    (ltb (length s) (fromEnd w), 1) ∷
+    (ltb (length s) (wholeEnd s w), 1) ∷
+    []
+
 abbrev pub readTests : List ℕ → ℕ → List (Bool × ℕ)
 readTests s w =
     (ltb (length s) 3, 1) ∷
@@ -40,11 +50,12 @@ readTests s w =
     (eqb (w % 8) 4, 3) ∷
     (eqb (bits w 10 2) 1, 4) ∷
     (eqb (bits w 14 2) 1, 4) ∷
-    (ltb (length s) (toEnd w), 1) ∷
-    (cond (bit w 6) (eqb (bits w 10 2) 0) false, 5) ∷
-    (ltb (length s) (fromEnd w), 1) ∷
-    (ltb (length s) (wholeEnd s w), 1) ∷
-    []
+    fieldTests s w
+
+-- what tests answer: the refusal beside the first that holds, or the length n where none does
+abbrev pub answered : List (Bool × ℕ) → ℕ → Outcome
+answered [] n = accepted n
+answered (test ∷ rest) n = cond (test .0) (refused (test .1)) (answered rest n)
 
 -- Writing: 8; 1 below three bytes of room; 6; 1 addresses; 7; 1 security part.
 abbrev pub writeTests : Header → OptionalCounter → ℕ → List (Bool × ℕ)
