@@ -1,15 +1,23 @@
-// The gateway's four entries for C. Each returns one number: the length, or 1000 plus the refusal number.
+// The gateway's four entries for C. Each returns one number: the length, or 1000 plus the refusal number. They measure, and copy what is
+// rewritten with the listed bits cleared; no record is made.
 ghost use mathlib.Core.Path.{_≡_};
 ghost use lib.ListN.{length};
+ghost use Rattle.octets.specs.Outcome.{accepted};
 ghost use Rattle.beacon.specs.Beacon.{readBeacon};
 ghost use Rattle.header.specs.Read.{readHeader, readOutcome};
 ghost use Rattle.gateway.specs.Code.{codeOf};
 ghost use Rattle.gateway.specs.Rewrite.{rewriteHeader, headerInto, rewriteBeacon, beaconInto};
-use beacon::Beacon;
-use header::Header;
-use header::HeaderRead;
+use beacon_measure::measure_beacon;
+use beacon_measure::time_slots_length;
+use copying::clear_header;
+use copying::clear_pending;
+use copying::clear_slots;
+use copying::copy;
+use header_measure::lacks_source;
 use header_measure::measure_header;
 use octets::Outcome;
+use octets::u8_at;
+use octets::u16_at;
 
 fn code(outcome: Outcome) -> usize
     ensures { λ r. ⌜ r ≡ codeOf outcome ⌝ }
@@ -21,11 +29,14 @@ fn code(outcome: Outcome) -> usize
     }
 }
 
-// Reads the header at the beginning of a frame.
+// Reads the header at the beginning of a frame. The shortest frames are told at once.
 #[no_mangle]
 pub extern "C" fn knobtangle_read_header(frame: &[u8]) -> usize
     ensures { λ r. ⌜ r ≡ codeOf (readOutcome (readHeader (now (frame .entry)))) ⌝ }
 {
+    if frame.len() < 3 {
+        return code(Outcome::refused(1));
+    }
     code(measure_header(frame))
 }
 
@@ -34,37 +45,73 @@ pub extern "C" fn knobtangle_read_header(frame: &[u8]) -> usize
 pub extern "C" fn knobtangle_read_beacon(content: &[u8]) -> usize
     ensures { λ r. ⌜ r ≡ codeOf (readBeacon (now (content .entry)) 0 .outcome) ⌝ }
 {
-    let answer = Beacon::read(content, 0);
-    let outcome = answer.outcome;
-    code(outcome)
+    code(measure_beacon(content, 0))
 }
 
-// Reads a header and writes it again with the counter that was read; refused, out keeps every byte.
+// What rewriting a frame's header into room bytes answers: reading's refusals, then writing's.
+fn rewriting(frame: &[u8], room: usize) -> Outcome
+    ensures { λ r. ⌜ r ≡ rewriteHeader (now (frame .entry)) room ⌝ }
+{
+    let measured = measure_header(frame);
+    if measured.number != 0 {
+        return measured;
+    }
+    if room < 3 {
+        return Outcome::refused(1);
+    }
+    if lacks_source(u16_at(frame, 0) as usize) {
+        return Outcome::refused(6);
+    }
+    if room < measured.length {
+        return Outcome::refused(1);
+    }
+    measured
+}
+
+// Copies the n bytes of a header and clears the listed bits. Asks that rewriting accepts it with that length.
+fn put_header(frame: &[u8], out: &mut [u8], n: usize)
+    requires { ⌜ rewriteHeader (now frame) (length (now out)) ≡ accepted n ⌝ }
+    ensures { λ r. ⌜ now (out .exit) ≡ headerInto (now (frame .entry)) (now (out .entry)) ⌝ }
+{
+    copy(frame, n, out);
+    clear_header(out, u16_at(frame, 0) as usize);
+}
+
+// Rewrites a header, as reading it and writing it again with the counter that was read does; refused, out keeps every byte.
 #[no_mangle]
 pub extern "C" fn knobtangle_rewrite_header(frame: &[u8], out: &mut [u8]) -> usize
     ensures { λ r. ⌜ (r ≡ codeOf (rewriteHeader (now (frame .entry)) (length (now (out .entry))))) × (now (out .exit) ≡ headerInto (now (frame .entry)) (now (out .entry))) ⌝ }
 {
-    match Header::read(frame) {
-        HeaderRead::Read(header, _) => {
-            let security = header.auxiliary_security_header;
-            let written = header.write(out, security.counter());
-            code(written.outcome())
-        }
-        HeaderRead::Refused(refusal) => code(HeaderRead::Refused(refusal).outcome()),
+    let outcome = rewriting(frame, out.len());
+    if outcome.number != 0 {
+        return code(outcome);
     }
+    put_header(frame, out, outcome.length);
+    outcome.length
 }
 
-// Reads a beacon and writes it again; refused, out keeps every byte.
+// Copies the n bytes of a beacon and clears the listed bits. Asks that rewriting accepts it with that length.
+fn put_beacon(content: &[u8], out: &mut [u8], n: usize)
+    requires { ⌜ rewriteBeacon (now content) (now out) ≡ accepted n ⌝ }
+    ensures { λ r. ⌜ now (out .exit) ≡ beaconInto (now (content .entry)) (now (out .entry)) ⌝ }
+{
+    copy(content, n, out);
+    clear_slots(out, u8_at(content, 2) % 8);
+    clear_pending(out, 2 + time_slots_length(content, 2));
+}
+
+// Rewrites a beacon, as reading it and writing it again does; refused, out keeps every byte.
 #[no_mangle]
 pub extern "C" fn knobtangle_rewrite_beacon(content: &[u8], out: &mut [u8]) -> usize
     ensures { λ r. ⌜ (r ≡ codeOf (rewriteBeacon (now (content .entry)) (now (out .entry)))) × (now (out .exit) ≡ beaconInto (now (content .entry)) (now (out .entry))) ⌝ }
 {
-    let answer = Beacon::read(content, 0);
-    let outcome = answer.outcome;
+    let outcome = measure_beacon(content, 0);
     if outcome.number != 0 {
         return code(outcome);
     }
-    let beacon = answer.beacon;
-    let written = beacon.write(out, 0);
-    code(written.outcome())
+    if out.len() < outcome.length {
+        return code(Outcome::refused(1));
+    }
+    put_beacon(content, out, outcome.length);
+    outcome.length
 }

@@ -90,16 +90,16 @@ module _ (s : List ℕ) (c : FrameControl) (k : OptionalSecurityHeader) (n : ℕ
   abbrev from : ℕ
   from = modeLength (not (c .«pan_id_compress»)) (c .source)
 
-  to-mode : modeOf (header .destination) ≡ c .destination
+  pub to-mode : modeOf (header .destination) ≡ c .destination
   to-mode = address-mode true (pan 0) (c .destination) s 3
 
-  from-mode : modeOf (header .source) ≡ c .source
+  pub from-mode : modeOf (header .source) ≡ c .source
   from-mode = address-mode (not (c .«pan_id_compress»)) (sharedPan (destinationIn c s)) (c .source) s (destinationEnd c)
 
   pub addresses-end : addressesEnd header ≡ sourceEnd c
   addresses-end = λ i. 3 + modeLength true (to-mode i) + modeLength (not (c .«pan_id_compress»)) (from-mode i)
 
-  secured-bit : isPresent k ≡ c .security
+  pub secured-bit : isPresent k ≡ c .security
   secured-bit =
       cases (security-found s (sourceEnd c) (c .security) k n (q .security))
       (λ none. ap isPresent (none .1) ∙ sym (none .0))

@@ -41,13 +41,13 @@ use Rattle.header_facts.proofs.Again.{length-again, header-again}
 use Rattle.header_facts.proofs.Back.{header-back}
 
 -- what holds of a security part that was read
-record Part-facts (k : OptionalSecurityHeader) : Type 0 where
-  small : SmallPart k
-  level : levelTooLarge k ≡ false
-  counter : counterOf (counterRead k) < 256 ^ 4
-  same : toldPart k (counterOf (counterRead k)) ≡ k
+pub record Part-facts (k : OptionalSecurityHeader) : Type 0 where
+  pub small : SmallPart k
+  pub level : levelTooLarge k ≡ false
+  pub counter : counterOf (counterRead k) < 256 ^ 4
+  pub same : toldPart k (counterOf (counterRead k)) ≡ k
 
-part-facts : (s : List ℕ) (at : ℕ) (on : Bool) (k : OptionalSecurityHeader) (end : ℕ) → Bytes s → securityPart s at on ≡ Part.Read k end → Part-facts k
+pub part-facts : (s : List ℕ) (at : ℕ) (on : Bool) (k : OptionalSecurityHeader) (end : ℕ) → Bytes s → securityPart s at on ≡ Part.Read k end → Part-facts k
 part-facts s at on k end b e =
     cases (security-found s at on k end e)
     (λ none. rw (none .1) (record { small = tt; level = refl; counter = omega arith; same = refl }))
@@ -82,7 +82,7 @@ both-there true Address.Absent s e f = e
 both-there true (Address.Present d) Address.Absent e f = f
 both-there true (Address.Present d) (Address.Present s) e f = refl
 
-counter-there : (k : OptionalSecurityHeader) → cond (isPresent k) (missing (counterRead k)) false ≡ false
+pub counter-there : (k : OptionalSecurityHeader) → cond (isPresent k) (missing (counterRead k)) false ≡ false
 counter-there Absent = refl
 counter-there (Present k) = refl
 

@@ -57,6 +57,10 @@ abbrev pub answered : List (Bool × ℕ) → ℕ → Outcome
 answered [] n = accepted n
 answered (test ∷ rest) n = cond (test .0) (refused (test .1)) (answered rest n)
 
+-- refusal 6 of a header that was read, by its frame control: compression without a source
+abbrev pub lacksSource : ℕ → Bool
+lacksSource w = cond (bit w 6) (eqb (bits w 14 2) 0) false
+
 -- Writing: 8; 1 below three bytes of room; 6; 1 addresses; 7; 1 security part.
 abbrev pub writeTests : Header → OptionalCounter → ℕ → List (Bool × ℕ)
 writeTests h counter room =

@@ -4,7 +4,7 @@ use mathlib.Core.Bool.{Bool, true, false, cond}
 use mathlib.Core.List.{List, _++_}
 use mathlib.Core.Path.{_≡_}
 use lib.ListN.{length, take, drop}
-use Rattle.octets.specs.Bits.{clearAt}
+use Rattle.octets.specs.Bits.{bit, clearAt}
 use Rattle.octets.specs.Buffer.{laid}
 use Rattle.key_identifier.specs.Key.{SmallKey}
 use Rattle.address.specs.declared.OptionalAddress.{OptionalAddress}
@@ -21,6 +21,7 @@ use Rattle.header.specs.declared.HeaderWritten.the-variants.{Written}
 use Rattle.header.specs.Record.{sourceOwn, addressesEnd, headerLength}
 use Rattle.header.specs.Read.{readHeader}
 use Rattle.header.specs.Write.{writeHeader, headerBytes}
+use Rattle.header_facts.specs.Order.{fromEnd}
 
 -- the record with the two flags that writing loses, `seq_no_suppress` and `ie_present`, false, and with the source and security part given
 abbrev pub quiet : Header → OptionalAddress → OptionalSecurityHeader → Header
@@ -54,6 +55,10 @@ clearControl (Present k) at s = clearAt at 5 3 s
 
 abbrev pub cleared : Header → List ℕ → List ℕ
 cleared h s = clearControl (h .«auxiliary_security_header») (addressesEnd h) (clearAt 1 0 2 (clearAt 0 7 1 (take (headerLength h) s)))
+
+-- the same of bytes l that begin with a header of the frame control w
+abbrev pub clearedBy : ℕ → List ℕ → List ℕ
+clearedBy w l = cond (bit w 3) (clearAt (fromEnd w) 5 3 (clearAt 1 0 2 (clearAt 0 7 1 l))) (clearAt 1 0 2 (clearAt 0 7 1 l))
 
 -- compression set without a source: read, and not written (document 01, P9)
 abbrev pub isAbsent : OptionalAddress → Bool

@@ -1,12 +1,11 @@
 -- What reading a header answers, by the plain tests on a number that is its frame control; and bytes past the end of a list.
 -- Assumes nothing.
-use Prim.Native.Nat.{ℕ, zero, suc, _%_, _≤_}
-use native.Mathlib.Omega.{arith}
+use Prim.Native.Nat.{ℕ, _%_, _≤_}
 use mathlib.Core.Bool.{false, cond}
-use mathlib.Core.List.{List, [], _∷_}
-use mathlib.Core.Path.{_≡_, refl, sym, ap, _∙_}
+use mathlib.Core.List.{List}
+use mathlib.Core.Path.{_≡_, sym, ap, _∙_}
 use lib.Dec.{eqb, ltb}
-use lib.ListN.{length, getD}
+use lib.ListN.{length, List·getD-eq-default}
 use Rattle.octets.specs.Bits.{bits, bit}
 use Rattle.octets.specs.Little.{number}
 use Rattle.octets.specs.Outcome.{accepted}
@@ -28,10 +27,5 @@ pub all-there : (s : List ℕ) (w : ℕ) → ltb (length s) (toEnd w) ≡ false 
     ltb (length s) (fromEnd w) ≡ false → ltb (length s) (wholeEnd s w) ≡ false → accepted (wholeEnd s w) ≡ answered (fieldTests s w) (wholeEnd s w)
 all-there s w destination compression source security = rw (destination, compression, source, security)
 
-getD-past : (s : List ℕ) (at : ℕ) → length s ≤ at → getD s at 0 ≡ 0
-getD-past [] at h = refl
-getD-past (x ∷ s) zero h = absurd (omega arith)
-getD-past (x ∷ s) (suc at) h = getD-past s at (omega arith)
-
 pub number-past : (s : List ℕ) (at : ℕ) → length s ≤ at → number s at 1 ≡ 0
-number-past s at h = number-one s at ∙ getD-past s at h
+number-past s at h = number-one s at ∙ List·getD-eq-default s 0 h

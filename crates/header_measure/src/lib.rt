@@ -1,27 +1,14 @@
 // Number and length of the header at the beginning of a slice, told by the bits of its frame control. No record is made.
 ghost use mathlib.Core.Path.{_≡_};
 ghost use mathlib.Core.Bool.{false, cond};
-ghost use Prim.Native.Nat.{_≤_};
+ghost use Prim.Native.Nat.{_≤_, _<_};
 ghost use lib.Dec.{eqb};
 ghost use Rattle.octets.specs.Bits.{bits, bit};
 ghost use Rattle.octets.specs.Little.{number};
-ghost use Rattle.octets.specs.Outcome.{accepted, refused};
 ghost use Rattle.header.specs.Read.{readHeader, readOutcome};
-ghost use Rattle.header_facts.specs.Order.{addressSize, securitySize, toEnd, fromEnd, wholeEnd, fieldTests, answered};
+ghost use Rattle.header_facts.specs.Order.{addressSize, securitySize, toEnd, fromEnd, wholeEnd, fieldTests, answered, lacksSource};
 use octets::Outcome;
 use octets::u16_at;
-
-fn accepted(length: usize) -> Outcome
-    ensures { λ r. ⌜ r ≡ accepted length ⌝ }
-{
-    Outcome { number: 0, length }
-}
-
-fn refused(number: u8) -> Outcome
-    ensures { λ r. ⌜ r ≡ refused number ⌝ }
-{
-    Outcome { number, length: 0 }
-}
 
 // The byte at a place, 0 past the end.
 fn byte_at(s: &[u8], at: usize) -> u8
@@ -30,29 +17,32 @@ fn byte_at(s: &[u8], at: usize) -> u8
     if at < s.len() { s[at] } else { 0 }
 }
 
-// Bytes of an address by the number of its mode.
-fn address_size(compressed: bool, mode: u16) -> usize
-    ensures { λ r. ⌜ (r ≡ addressSize compressed mode) × (r ≤ 10) ⌝ }
+// Bytes of an address by its compression bit and the number of its mode. Asks that these are one bit and two.
+fn address_size(compressed: usize, mode: usize) -> usize
+    requires { ⌜ (compressed < 2) × (mode < 4) ⌝ }
+    ensures { λ r. ⌜ (r ≡ addressSize (eqb compressed 1) mode) × (r ≤ 10) ⌝ }
 {
-    match mode {
-        2 => if compressed { 2 } else { 4 },
-        3 => if compressed { 8 } else { 10 },
+    match 4 * compressed + mode {
+        2 => 4,
+        3 => 10,
+        6 => 2,
+        7 => 8,
         _ => 0,
     }
 }
 
 // Where the destination ends by a frame control.
-fn destination_end(w: u16) -> usize
+fn destination_end(w: usize) -> usize
     ensures { λ r. ⌜ (r ≡ toEnd w) × (r ≤ 13) ⌝ }
 {
-    3 + address_size(false, w / 1024 % 4)
+    3 + address_size(0, w / 1024 % 4)
 }
 
 // Where the addresses end by a frame control.
-pub fn addresses_end(w: u16) -> usize
+pub fn addresses_end(w: usize) -> usize
     ensures { λ r. ⌜ (r ≡ fromEnd w) × (r ≤ 23) ⌝ }
 {
-    destination_end(w) + address_size(w / 64 % 2 == 1, w / 16384 % 4)
+    destination_end(w) + address_size(w / 64 % 2, w / 16384 % 4)
 }
 
 // Bytes of a security part by the number of its key mode.
@@ -67,11 +57,11 @@ fn security_size(mode: u8) -> usize
     }
 }
 
-// Where the header ends by a frame control, and by the security control where the addresses end.
-fn whole_end(s: &[u8], w: u16) -> usize
+// Where the header ends by a frame control, and by the security control where the addresses end, at the place that is handed over.
+fn whole_end(s: &[u8], w: usize, at: usize) -> usize
+    requires { ⌜ (at ≡ fromEnd w) × (at ≤ 23) ⌝ }
     ensures { λ r. ⌜ (r ≡ wholeEnd (now (s .entry)) w) × (r ≤ 37) ⌝ }
 {
-    let at = addresses_end(w);
     if w / 8 % 2 == 1 {
         at + security_size(byte_at(s, at) / 8 % 4)
     } else {
@@ -79,8 +69,19 @@ fn whole_end(s: &[u8], w: u16) -> usize
     }
 }
 
+// Compression without a source, which reading accepts and writing refuses with 6.
+pub fn lacks_source(w: usize) -> bool
+    ensures { λ r. ⌜ r ≡ lacksSource w ⌝ }
+{
+    if w / 64 % 2 == 1 {
+        w / 16384 % 4 == 0
+    } else {
+        false
+    }
+}
+
 // Compression without a destination whose PAN id could be shared.
-fn unshared(w: u16) -> bool
+fn unshared(w: usize) -> bool
     ensures { λ r. ⌜ r ≡ cond (bit w 6) (eqb (bits w 10 2) 0) false ⌝ }
 {
     if w / 64 % 2 == 1 {
@@ -91,23 +92,24 @@ fn unshared(w: u16) -> bool
 }
 
 // What stands behind a frame control that is known.
-fn measure_fields(s: &[u8], w: u16) -> Outcome
+fn measure_fields(s: &[u8], w: usize) -> Outcome
     ensures { λ r. ⌜ r ≡ answered (fieldTests (now (s .entry)) w) (wholeEnd (now (s .entry)) w) ⌝ }
 {
     if s.len() < destination_end(w) {
-        return refused(1);
+        return Outcome::refused(1);
     }
     if unshared(w) {
-        return refused(5);
+        return Outcome::refused(5);
     }
-    if s.len() < addresses_end(w) {
-        return refused(1);
+    let at = addresses_end(w);
+    if s.len() < at {
+        return Outcome::refused(1);
     }
-    let end = whole_end(s, w);
+    let end = whole_end(s, w, at);
     if s.len() < end {
-        return refused(1);
+        return Outcome::refused(1);
     }
-    accepted(end)
+    Outcome::accepted(end)
 }
 
 // What reading the header at the beginning of a slice answers: 0 and its length, or the first refusal and 0.
@@ -115,20 +117,20 @@ pub fn measure_header(s: &[u8]) -> Outcome
     ensures { λ r. ⌜ r ≡ readOutcome (readHeader (now (s .entry))) ⌝ }
 {
     if s.len() < 3 {
-        return refused(1);
+        return Outcome::refused(1);
     }
-    let w = u16_at(s, 0);
+    let w = u16_at(s, 0) as usize;
     if w / 4096 % 4 == 3 {
-        return refused(2);
+        return Outcome::refused(2);
     }
     if w % 8 == 4 {
-        return refused(3);
+        return Outcome::refused(3);
     }
     if w / 1024 % 4 == 1 {
-        return refused(4);
+        return Outcome::refused(4);
     }
     if w / 16384 % 4 == 1 {
-        return refused(4);
+        return Outcome::refused(4);
     }
     measure_fields(s, w)
 }

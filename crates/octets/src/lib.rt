@@ -6,6 +6,7 @@ ghost use lib.ListN.{length};
 ghost use Rattle.octets.specs.Bits.{bitOf};
 ghost use Rattle.octets.specs.Buffer.{laid, after};
 ghost use Rattle.octets.specs.Little.{split, number};
+ghost use Rattle.octets.specs.Outcome.{accepted, refused};
 ghost use Rattle.octets.specs.Part.{writePart, partOutcome};
 ghost use Rattle.octets.specs.Value.{valueOutcome};
 
@@ -13,6 +14,22 @@ ghost use Rattle.octets.specs.Value.{valueOutcome};
 pub struct Outcome {
     pub number: u8,
     pub length: usize,
+}
+
+impl Outcome {
+    // Accepted, with its length.
+    pub fn accepted(length: usize) -> Self
+        ensures { λ r. ⌜ r ≡ accepted length ⌝ }
+    {
+        Outcome { number: 0, length }
+    }
+
+    // Refused with a number, and length 0.
+    pub fn refused(number: u8) -> Self
+        ensures { λ r. ⌜ r ≡ refused number ⌝ }
+    {
+        Outcome { number, length: 0 }
+    }
 }
 
 // What writing a part answers that can only lack room: its length, or refusal 1.

@@ -1,35 +1,48 @@
--- `gateway::knobtangle_rewrite_beacon` meets its contract: a refused reading leaves the output, a beacon that was read is written as demand 3 has it.
+-- `gateway::knobtangle_rewrite_beacon` meets its contract: a beacon that is there and has room is copied, another leaves the output.
 -- Assumes nothing.
-use mathlib.Core.Path.{ap, _∙_}
+use mathlib.Core.Path.{sym, ap, _∙_}
 use borrow.Author.Needs.{needs}
 use denote.Ref.{now}
-use Rattle.octets.proofs.Little.{bytes-known}
 use Rattle.gateway.specs.Code.{codeOf}
-use Rattle.gateway.proofs.Laws.{beacon-written, beacon-refused}
+use Rattle.gateway.proofs.Laws.{beacon-refused, beacon-full, beacon-fits}
 use Rattle.gateway.proofs.knobtangle_rewrite_beacon.Statement.{statement}
 use Rattle.gateway.proofs.knobtangle_rewrite_beacon.Tie as tie
 
 refused : tie.Need-returns
 refused c =
-    let call = c .before .before .before .before in
+    let call = c .before .before .before in
     let a = call .before .before .before .args in
-    let q = beacon-refused (now (a .content)) (now (a .out)) _ (call .read .ensures) (c .before .if1 .taken) in
+    let q = beacon-refused (now (a .content)) (now (a .out)) _ (call .measure-beacon .ensures) (c .before .if1 .taken) in
     (c .code .ensures ∙ ap codeOf (q .0), q .1)
 
-written : tie.Need-returns-2
+full : tie.Need-returns-2
+full c =
+    let room = c .before .before in
+    let read = room .before .before in
+    let call = read .before .before in
+    let a = call .before .before .before .args in
+    let q = beacon-full (now (a .content)) (now (a .out)) _ (call .measure-beacon .ensures) (read .if1 .left) (room .if2 .taken) in
+    (c .code2 .ensures ∙ ap codeOf (c .before .refused .ensures ∙ q .0), q .1)
+
+accepts : tie.Need-put-beacon-requires
+accepts c κs =
+    let room = c .before in
+    let read = room .before .before in
+    let call = read .before .before in
+    let a = call .before .before .before .args in
+    beacon-fits (now (a .content)) (now (a .out)) _ (call .measure-beacon .ensures) (read .if1 .left) (room .if2 .left)
+
+written : tie.Need-returns-3
 written c =
-    let write = c .before .before .before .before in
-    let test = write .before .before .before in
-    let call = test .before .before .before in
-    let known = call .before .before in
-    let a = known .before .args in
-    let q =
-    beacon-written (now (a .content)) (now (a .out)) _ _ _ (bytes-known (now (a .content)) (known .shared-slice-known .given))
-    (call .read .ensures) (test .if1 .left) (write .write .ensures .0) (write .write .ensures .1) in
-    (c .code2 .ensures ∙ ap codeOf (c .before .outcome2 .ensures ∙ q .0), q .1)
+    let copying = c .before .before in
+    let room = copying .before .before in
+    let read = room .before .before in
+    let call = read .before .before in
+    let a = call .before .before .before .args in
+    let q = beacon-fits (now (a .content)) (now (a .out)) _ (call .measure-beacon .ensures) (read .if1 .left) (room .if2 .left) in
+    (sym (ap codeOf q), copying .put-beacon .ensures)
 
 pub knobtangle-rewrite-beacon-spec : {M : Type 1} → statement M
 knobtangle-rewrite-beacon-spec =
     tie.close
-    (tie.spec (λ c κs. search needs) (λ c κs. search needs) refused (λ c κs. search needs) (λ c κs. search needs) (λ c κs. search needs)
-    (λ c. search needs) written)
+    (tie.spec (λ c κs. search needs) (λ c κs. search needs) refused (λ c κs. search needs) (λ c κs. search needs) full accepts (λ c. search needs) written)

@@ -1,35 +1,36 @@
--- `gateway::knobtangle_rewrite_header` meets its contract: a refused reading leaves the output, a header that was read is written as demand 3 has it.
+-- `gateway::knobtangle_rewrite_header` meets its contract: what rewriting answers, and the header copied where it accepts.
 -- Assumes nothing.
-use mathlib.Core.Path.{refl, sym, ap, _∙_}
+use mathlib.Core.Path.{sym, ap, _∙_}
 use borrow.Author.Needs.{needs}
 use denote.Ref.{now}
-use Rattle.octets.proofs.Little.{bytes-known}
+use Rattle.octets.specs.declared.Outcome.{Outcome}
 use Rattle.gateway.specs.Code.{codeOf}
-use Rattle.gateway.specs.Rewrite.{rewriteHeader, headerInto}
-use Rattle.gateway.proofs.Laws.{header-rewritten}
+use Rattle.gateway.proofs.Laws.{header-kept, accepted-of}
 use Rattle.gateway.proofs.knobtangle_rewrite_header.Statement.{statement}
 use Rattle.gateway.proofs.knobtangle_rewrite_header.Tie as tie
 
-written : tie.Need-returns
-written c =
-    let write = c .before .before .before .before in
-    let found = write .before .before .before .before in
-    let call = found .before .before in
-    let known = call .before .before in
-    let a = known .before .args in
-    let q =
-    header-rewritten (now (a .frame)) (now (a .out)) _ _ _ _ _ (bytes-known (now (a .frame)) (known .shared-slice-known .given))
-    (sym (call .read .ensures) ∙ found .header .given .1) (write .before .counter .ensures) (write .write .ensures .0) (write .write .ensures .1) in
-    (c .code .ensures ∙ ap codeOf (c .before .outcome .ensures ∙ q .0), q .1)
-
-refused : tie.Need-returns-2
-unfolding rewriteHeader headerInto
+refused : tie.Need-returns
 refused c =
-    let found = c .before .before .before in
-    rw (sym (found .before .before .read .ensures) ∙ found .refusal .given .1) (c .code2 .ensures ∙ ap codeOf (c .before .outcome2 .ensures), refl)
+    let call = c .before .before .before in
+    let a = call .before .before .before .args in
+    let answer = call .rewriting .ensures in (
+      c .code .ensures ∙ ap codeOf answer,
+      header-kept (now (a .frame)) (now (a .out)) (λ z. c .before .if1 .taken (ap (λ (o : Outcome). o .number) answer ∙ z)),
+    )
+
+accepts : tie.Need-put-header-requires
+accepts c κs =
+    let read = c .before in
+    let call = read .before .before in
+    sym (call .rewriting .ensures) ∙ accepted-of _ (read .if1 .left)
+
+written : tie.Need-returns-2
+written c =
+    let copying = c .before .before in
+    let read = copying .before .before in
+    let call = read .before .before in
+    (sym (ap codeOf (sym (call .rewriting .ensures) ∙ accepted-of _ (read .if1 .left))), copying .put-header .ensures)
 
 pub knobtangle-rewrite-header-spec : {M : Type 1} → statement M
 knobtangle-rewrite-header-spec =
-    tie.close
-    (tie.spec (λ c κs. search needs) (λ c. search needs) (λ c κs. search needs) (λ c κs. search needs) (λ c κs. search needs) (λ c κs. search needs)
-    (λ c. search needs) (λ c κs. search needs) (λ c κs. search needs) (λ c. search needs) written refused)
+    tie.close (tie.spec (λ c κs. search needs) (λ c κs. search needs) refused accepts (λ c. search needs) written)

@@ -1,22 +1,52 @@
--- `header_measure::address_size` meets its contract: by the mode, and by compression.
+-- `header_measure::address_size` meets its contract: by the compression bit and the mode.
 -- Assumes nothing.
+use Prim.Native.Nat.{ℕ, zero, suc, _+_, _*_, _<_}
+use mathlib.Core.Path.{_≡_, refl}
 use native.Mathlib.Omega.{arith}
+use borrow.Author.Needs.{needs}
 use borrow.Author.Tests.{ne-eqb}
-use mathlib.Core.Path.{refl}
 use Rattle.header_measure.proofs.address_size.Statement.{statement}
 use Rattle.header_measure.proofs.address_size.Tie as tie
 
-other : tie.Need-returns-5
-other c =
+short : tie.Need-returns
+short c =
+    let a = c .before .args in
+    let own : a .compressed ≡ 0 = omega (arith, c .match .keys1) in
+    let mode : a .mode ≡ 2 = omega (arith, c .match .keys1) in
+    rw (own, mode) (refl, omega arith)
+
+extended : tie.Need-returns-2
+extended c =
+    let a = c .before .args in
+    let own : a .compressed ≡ 0 = omega (arith, c .match .keys2) in
+    let mode : a .mode ≡ 3 = omega (arith, c .match .keys2) in
+    rw (own, mode) (refl, omega arith)
+
+bare-short : tie.Need-returns-3
+bare-short c =
+    let a = c .before .args in
+    let own : a .compressed ≡ 1 = omega (arith, c .match .keys3) in
+    let mode : a .mode ≡ 2 = omega (arith, c .match .keys3) in
+    rw (own, mode) (refl, omega arith)
+
+bare-extended : tie.Need-returns-4
+bare-extended c =
+    let a = c .before .args in
+    let own : a .compressed ≡ 1 = omega (arith, c .match .keys4) in
+    let mode : a .mode ≡ 3 = omega (arith, c .match .keys4) in
+    rw (own, mode) (refl, omega arith)
+
+neither : (c m : ℕ) → c < 2 → (4 * c + m ≡ 2 → ⊥) → (4 * c + m ≡ 3 → ⊥) → (4 * c + m ≡ 6 → ⊥) → (4 * c + m ≡ 7 → ⊥) → (m ≡ 2 → ⊥) × (m ≡ 3 → ⊥)
+neither zero m h two three six seven = (λ e. two (omega arith), λ e. three (omega arith))
+neither (suc zero) m h two three six seven = (λ e. six (omega arith), λ e. seven (omega arith))
+neither (suc (suc c)) m h two three six seven = absurd (omega arith)
+
+none : tie.Need-returns-5
+none c =
+    let start = c .before in
     let r = c .match .rest in
-    simp (ne-eqb _ _ (r .1), ne-eqb _ _ (r .0 .1)) (refl, omega arith)
+    let q = neither (start .args .compressed) (start .args .mode) (start .pre .0) (r .0 .0 .0 .1) (r .0 .0 .1) (r .0 .1) (r .1) in
+    simp (ne-eqb _ _ (q .0), ne-eqb _ _ (q .1)) (refl, omega arith)
 
 pub address-size-spec : {M : Type 1} → statement M
-address-size-spec =
-    tie.close
-    (tie.spec
-    (λ c. rw (c .before .match .keys1, c .if1 .taken) (refl, omega arith))
-    (λ c. rw (c .before .match .keys1, c .if1 .left) (refl, omega arith))
-    (λ c. rw (c .before .match .keys2, c .if2 .taken) (refl, omega arith))
-    (λ c. rw (c .before .match .keys2, c .if2 .left) (refl, omega arith))
-    other)
+address-size-spec = tie.close (tie.spec (λ c. search needs) (λ c. search needs) short extended bare-short bare-extended none)

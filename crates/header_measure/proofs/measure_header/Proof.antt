@@ -80,5 +80,5 @@ fields c =
 pub measure-header-spec : {M : Type 1} → statement M
 measure-header-spec =
     tie.close
-    (tie.spec (λ c κs. search needs) below-three (λ c κs. search needs) (λ c κs. search needs) version (λ c κs. search needs) kind
+    (tie.spec (λ c κs. search needs) below-three (λ c κs. search needs) (λ c. search needs) (λ c κs. search needs) version (λ c κs. search needs) kind
     (λ c κs. search needs) destination (λ c κs. search needs) source (λ c κs. search needs) fields)

@@ -1,23 +1,23 @@
 -- `header_measure::whole_end` meets its contract: by the security bit.
 -- Assumes nothing.
 use native.Mathlib.Omega.{arith}
-use borrow.Author.Tests.{eq-eqb, ne-eqb}
 use borrow.Author.Needs.{needs}
+use borrow.Author.Tests.{eq-eqb, ne-eqb}
 use Rattle.header_measure.proofs.whole_end.Statement.{statement}
 use Rattle.header_measure.proofs.whole_end.Tie as tie
 
 secured : tie.Need-returns
 secured c =
     let test = c .before .before in
-    let end = test .before .addresses-end .ensures in
-    (simp (eq-eqb _ _ (test .if1 .taken), c .security-size .ensures .0, c .before .byte-at .ensures, end .0), omega (arith, end .1, c .security-size .ensures .1))
+    let asked = test .before .before .pre in (
+      simp (eq-eqb _ _ (test .if1 .taken), c .security-size .ensures .0, c .before .byte-at .ensures, asked .0),
+      omega (arith, asked .1, c .security-size .ensures .1),
+    )
 
 plain : tie.Need-returns-2
 plain c =
-    let end = c .before .addresses-end .ensures in
-    (simp (ne-eqb _ _ (c .if1 .left), end .0), omega (arith, end .1))
+    let asked = c .before .before .pre in
+    (simp (ne-eqb _ _ (c .if1 .left), asked .0), omega (arith, asked .1))
 
 pub whole-end-spec : {M : Type 1} → statement M
-whole-end-spec =
-    tie.close
-    (tie.spec (λ c κs. search needs) (λ c κs. search needs) (λ c κs. search needs) (λ c. search needs) secured plain)
+whole-end-spec = tie.close (tie.spec (λ c κs. search needs) (λ c κs. search needs) (λ c. search needs) secured plain)

@@ -1,0 +1,60 @@
+// Number and length of the beacon at a place of a slice, told by the counts in its two headers. No record is made.
+ghost use mathlib.Core.Path.{_≡_};
+ghost use Prim.Native.Nat.{_+_, _≤_, _<_};
+ghost use lib.ListN.{length};
+ghost use Rattle.time_slots.specs.TimeSlots.{slotsLength, timeSlotsLengthIn};
+ghost use Rattle.pending.specs.Pending.{pendingLengthIn};
+ghost use Rattle.beacon.specs.Beacon.{readBeacon};
+use octets::Outcome;
+use octets::left;
+use octets::u8_at;
+
+fn wide(b: u8) -> usize
+    ensures { λ r. ⌜ (r ≡ b) × (r < 256) ⌝ }
+{
+    b as usize
+}
+
+// Bytes of n slots behind their header.
+fn slots_length(n: usize) -> usize
+    requires { ⌜ n < 8 ⌝ }
+    ensures { λ r. ⌜ (r ≡ slotsLength n) × (r ≤ 22) ⌝ }
+{
+    if n == 0 { 0 } else { 1 + 3 * n }
+}
+
+// Bytes of the GTS information at a place. Asks that its header is there.
+pub fn time_slots_length(s: &[u8], at: usize) -> usize
+    requires { ⌜ at + 1 ≤ length (now s) ⌝ }
+    ensures { λ r. ⌜ (r ≡ timeSlotsLengthIn (now (s .entry)) at) × (r ≤ 23) ⌝ }
+{
+    1 + slots_length(wide(u8_at(s, at)) % 8)
+}
+
+// Bytes of the pending addresses at a place. Asks that their header is there.
+fn pending_length(s: &[u8], at: usize) -> usize
+    requires { ⌜ at + 1 ≤ length (now s) ⌝ }
+    ensures { λ r. ⌜ (r ≡ pendingLengthIn (now (s .entry)) at) × (r ≤ 71) ⌝ }
+{
+    let header = wide(u8_at(s, at));
+    1 + (2 * (header % 8) + 8 * (header / 16 % 8))
+}
+
+// What reading the beacon at a place answers: 0 and its length, or 1 and 0 where its bytes are not all there.
+pub fn measure_beacon(s: &[u8], at: usize) -> Outcome
+    ensures { λ r. ⌜ r ≡ readBeacon (now (s .entry)) at .outcome ⌝ }
+{
+    let there = left(s, at);
+    if there < 4 {
+        return Outcome::refused(1);
+    }
+    let slots = 2 + time_slots_length(s, at + 2);
+    if there < slots + 1 {
+        return Outcome::refused(1);
+    }
+    let n = slots + pending_length(s, at + slots);
+    if there < n {
+        return Outcome::refused(1);
+    }
+    Outcome::accepted(n)
+}
