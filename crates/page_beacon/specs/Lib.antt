@@ -1,0 +1,3 @@
+pub mod Beacon
+pub mod Reads
+pub mod Writes
