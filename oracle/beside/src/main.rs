@@ -6,7 +6,7 @@ mod suites;
 
 use compare::{Table, Verdict};
 use oracle_format::generator::{Run, FAMILIES};
-use oracle_format::text::bytes_of_hex;
+use oracle_format::text::{bytes_of_hex, fnv, hex, FNV_START};
 use sides::Program;
 use std::io::Write;
 use suites::{line, thousand, SUITES};
@@ -102,6 +102,14 @@ fn single(bytes: &[u8]) -> Vec<Vec<u8>> {
     lines
 }
 
+/// The digest of dump lines, as a dump line.
+fn digest(lines: &[Vec<u8>]) -> Vec<u8> {
+    let value = lines.iter().fold(FNV_START, |value, line| fnv(fnv(value, line), b"\n"));
+    let mut text = Vec::new();
+    hex(&value.to_be_bytes(), &mut text);
+    text
+}
+
 fn expand(command: &str) {
     let digits = command.trim_start_matches("d\t");
     let bytes = bytes_of_hex(digits.as_bytes()).unwrap_or_else(|| usage());
@@ -133,13 +141,15 @@ impl Sides {
         }
     }
 
-    /// Whether the programs give one digest.
-    fn digests_agree(&mut self, lines: &[Vec<u8>]) -> Vec<bool> {
-        let rust = self.rust_folded.ask(lines);
-        let model = self.model_folded.ask(lines);
-        let program = self.program.as_mut().map(|program| program.ask(lines));
+    /// Whether the programs give one digest for each thousand; a program of ours is given the single commands.
+    fn digests_agree(&mut self, thousands: &[Vec<u8>]) -> Vec<bool> {
+        let lines: Vec<_> = thousands.iter().map(|bytes| line(b'd', bytes)).collect();
+        let rust = self.rust_folded.ask(&lines);
+        let model = self.model_folded.ask(&lines);
+        let program = self.program.as_mut();
+        let ours = program.map(|program| thousands.iter().map(|bytes| digest(&program.ask(&single(bytes)))).collect::<Vec<_>>());
         (0..lines.len())
-            .map(|index| rust[index] == model[index] && program.as_ref().map_or(true, |program| program[index] == rust[index]))
+            .map(|index| rust[index] == model[index] && ours.as_ref().map_or(true, |ours| ours[index] == rust[index]))
             .collect()
     }
 
@@ -188,8 +198,8 @@ fn run(rust: &str, model: &str, thousands: u64, program: Option<&str>) {
         let mut table = Table::default();
         let numbers: Vec<u64> = (0..thousands).collect();
         for batch in numbers.chunks(64) {
-            let lines: Vec<_> = batch.iter().map(|number| line(b'd', &thousand(family, *number))).collect();
-            for (agree, number) in sides.digests_agree(&lines).into_iter().zip(batch) {
+            let thousands: Vec<_> = batch.iter().map(|number| thousand(family, *number)).collect();
+            for (agree, number) in sides.digests_agree(&thousands).into_iter().zip(batch) {
                 if agree {
                     table.equal(1000);
                 } else {

@@ -22,6 +22,9 @@ pub type Number = u8;
 pub trait Part {
     type Record: Copy;
 
+    /// Whether it is read and written at the places that a command names; otherwise at the beginning.
+    const PLACED: bool = true;
+
     /// The record at a place of the slice and the count of its bytes, or the refusal.
     fn read(bytes: &[u8], place: usize) -> Result<(Self::Record, usize), Number>;
 
@@ -137,7 +140,7 @@ fn put_written<P: Part>(record: P::Record, ask: Ask, form: Form, out: &mut Vec<u
     };
     let mut room = [FILL; MOST_ROOM];
     let buffer = &mut room[..ask.room];
-    match P::write(record, counter, buffer, ask.out) {
+    match P::write(record, counter, buffer, if P::PLACED { ask.out } else { 0 }) {
         None => out.push(b'?'),
         Some(Ok(length)) => {
             out.extend_from_slice(b"0\t");
@@ -157,7 +160,7 @@ fn put_written<P: Part>(record: P::Record, ask: Ask, form: Form, out: &mut Vec<u
 
 fn put_read<P: Part>(bytes: &[u8], form: Form, out: &mut Vec<u8>) -> bool {
     let Some((ask, input)) = ask(bytes) else { return false };
-    match P::read(input, ask.place) {
+    match P::read(input, if P::PLACED { ask.place } else { 0 }) {
         Err(number) => put_refused(number, form, out),
         Ok((record, length)) => {
             out.extend_from_slice(b"0\t");

@@ -106,6 +106,7 @@ impl Header {
 
 impl Part for Header {
     type Record = Header;
+    const PLACED: bool = false;
 
     /// 1 below three bytes; 2; 3; 4 destination; 4 source; 1 destination; 5; 1 source; 1 security part.
     fn read(bytes: &[u8], place: usize) -> Result<(Header, usize), Number> {

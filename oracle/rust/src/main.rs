@@ -100,6 +100,7 @@ struct HeaderPart;
 
 impl Part for HeaderPart {
     type Record = Header;
+    const PLACED: bool = false;
 
     fn read(bytes: &[u8], place: usize) -> Result<(Header, usize), Number> {
         read_at(bytes, place)
