@@ -22,8 +22,26 @@ struct Turn {
     next: u8,
 }
 
+// What comes after a read that failed: an interrupted one is no error.
+fn after_error() -> u8 {
+    if os::errno() == libc::EINTR {
+        return MORE;
+    }
+    os::fail(b"read");
+    FAILED
+}
+
+// What comes after a write: nothing, where it failed.
+fn after_write(good: bool) -> u8 {
+    if good {
+        return MORE;
+    }
+    os::fail(b"write");
+    FAILED
+}
+
 // Reads once, and writes the answers to the lines that end in what was read. Whatever that is, the first got bytes of chunk, it is what is
-// fed, and what is fed leads to is what is to be written. An interrupted read is no error.
+// fed, and what is fed leads to is what is to be written.
 fn take_turn(chunk: &mut [u8], line: &mut [u8], n: usize, out: &mut [u8]) -> Turn
     requires { ⌜ (n ≤ 1025) × (length (now line) ≡ 1025) × (length (now chunk) ≡ 65536) × (length (now out) ≡ 328705) ⌝ }
     ensures { λ r. ⌜ record { out = now (out .exit); used = r .used; kept = take (r .n) (now (line .exit)) } ≡ fedTo (take n (now (line .entry))) (take (r .got) (now (chunk .exit))) (now (out .entry)) 0 ⌝ }
@@ -31,20 +49,12 @@ fn take_turn(chunk: &mut [u8], line: &mut [u8], n: usize, out: &mut [u8]) -> Tur
 {
     let got = libc::read(STDIN_FILENO, chunk);
     if got < 0 {
-        if os::errno() == libc::EINTR {
-            return Turn {
-                n,
-                got: 0,
-                used: 0,
-                next: MORE,
-            };
-        }
-        os::fail(b"read");
+        let next = after_error();
         return Turn {
             n,
             got: 0,
             used: 0,
-            next: FAILED,
+            next,
         };
     }
     if got == 0 {
@@ -58,20 +68,12 @@ fn take_turn(chunk: &mut [u8], line: &mut [u8], n: usize, out: &mut [u8]) -> Tur
     let count = io::count(got, chunk);
     let fed = lines::feed(&chunk[..count], line, n, out);
     let used = fed.used;
-    if io::write_all(STDOUT_FILENO, &out[..used]) {
-        return Turn {
-            n: fed.n,
-            got: count,
-            used,
-            next: MORE,
-        };
-    }
-    os::fail(b"write");
+    let next = after_write(io::write_all(STDOUT_FILENO, &out[..used]));
     Turn {
         n: fed.n,
         got: count,
         used,
-        next: FAILED,
+        next,
     }
 }
 

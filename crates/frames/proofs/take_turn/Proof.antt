@@ -23,19 +23,15 @@ unread c =
     let s = c .before .before .before .before .before in
     (nothing (s .args .line .now) (s .args .out .now) (s .args .n) (s .pre .0), s .pre .0)
 
-interrupted : tie.Need-returns
-interrupted c = unread (c .before .before .before .before .before)
+failed : tie.Need-returns
+failed c = unread (c .before .before .before .before)
 
-failed : tie.Need-returns-2
-failed c = unread (c .before .before .before .before .before .before .before)
-
-ended : tie.Need-returns-3
+ended : tie.Need-returns-2
 ended c = unread (c .before .before .before .before)
 
 pub take-turn-spec : {M : Type 1} → statement M
 take-turn-spec =
     tie.close
-    (tie.spec (λ c κs. search needs) (λ c κs. search needs) (λ c. search needs) interrupted (λ c. search needs) (λ c κs. search needs) (λ c. search needs) failed
-    (λ c. search needs) ended (λ c κs. search needs) (λ c. search needs) (λ c. search needs) (λ c κs. search needs) (λ c. search needs)
-    (λ c. sym (length-take-le _ _ (omega arith))) (λ c κs. search needs) (λ c. search needs) (λ c. search needs) (λ c. search needs) (λ c. search needs)
-    (λ c. search needs) (λ c κs. search needs) (λ c. search needs) (λ c. search needs) (λ c. search needs) (λ c. search needs))
+    (tie.spec (λ c κs. search needs) (λ c κs. search needs) (λ c. search needs) failed (λ c. search needs) ended (λ c κs. search needs) (λ c. search needs)
+    (λ c. search needs) (λ c κs. search needs) (λ c. search needs) (λ c. sym (length-take-le _ _ (omega arith))) (λ c κs. search needs)
+    (λ c κs. search needs) (λ c. search needs) (λ c. search needs) (λ c. search needs) (λ c. search needs))
