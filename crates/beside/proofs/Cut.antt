@@ -9,14 +9,15 @@ use borrow.Author.Tests.{ltb-true, ltb-false}
 use lib.ListN.{length, take, drop, length-drop}
 use lib.Seq.{take-append-add}
 use Rattle.octets.specs.Buffer.{laid}
+use Rattle.octets.specs.Stored.{Stored}
+use Rattle.octets.proofs.Stored.{same}
 use Rattle.cutter.specs.declared.Taken.{Taken}
 use Rattle.cutter.specs.Line.{lineOf, lineEnds, behind, fitting, taken}
 use Rattle.cutter.proofs.Line.{before-length, before-part, free-first, line-ended, taken-kept, taken-end, taken-small, taken-feed, taken-all}
 use Rattle.spell.specs.Added.{Added}
-use Rattle.spell.proofs.Added.{same}
 use Rattle.dump.specs.Commands.{answer}
 use Rattle.beside.specs.Fed.{Fed, Onward, part}
-use Rattle.beside.proofs.Added.{within}
+use Rattle.beside.proofs.Added.{answered, within}
 use Rattle.beside.proofs.Fed.{fed-ended, fed-open}
 
 module _ (chunk : List ℕ) (at : ℕ) (line : List ℕ) (n : ℕ) (r : Taken) (kept : List ℕ)
@@ -35,16 +36,17 @@ module _ (chunk : List ℕ) (at : ℕ) (line : List ℕ) (n : ℕ) (r : Taken) (
       let k : r .at - at ≡ length (lineOf d) + 1 = omega (arith, taken-feed chunk at line n r e t) in
       ap (λ (j : ℕ). take j d) k ∙ ap (take (length (lineOf d) + 1)) (line-ended d t) ∙ take-append-add (lineOf d) (10 ∷ behind d) 1
 
-  pub cut-ended : (out o : List ℕ) (u next : ℕ) → r .ended ≡ true → u ≤ length out → Added out u (answer (take (r .n) kept)) o next →
+  pub cut-ended : (out o : List ℕ) (u next : ℕ) → r .ended ≡ true → u + 1033 ≤ length out → Added out u (answer (take (r .n) kept)) o next →
       Fed (take n line) (part chunk at (r .at)) out u o next [] × Onward (length chunk) (length out) at (r .at) 0 next
   cut-ended out o u next t h a =
       let d = drop at chunk in
       let ends : lineEnds d ≡ true = sym (taken-end chunk at line n r e) ∙ t in
       let x : length (lineOf d) < length d = ltb-true _ _ ends in
       let y = length-drop at chunk in
-      let z = taken-feed chunk at line n r e ends in (
-        rw (part-ended ends) (fed-ended (lineOf d) (take n line) out o u next (free-first 10 10 d) (same (ap answer front) a)),
-        record { later = omega arith; within = omega arith; small = omega arith; fits = within a h },
+      let z = taken-feed chunk at line n r e ends in
+      let b = answered (take (r .n) kept) a h in (
+        rw (part-ended ends) (fed-ended (lineOf d) (take n line) out o u next (free-first 10 10 d) (same (ap answer front) b)),
+        record { later = omega arith; within = omega arith; small = omega arith; fits = within (take (r .n) kept) b h },
       )
 
   pub cut-open : (out : List ℕ) (u : ℕ) → r .ended ≡ false → u ≤ length out →

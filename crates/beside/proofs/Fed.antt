@@ -6,24 +6,24 @@ use mathlib.Core.List.{List, [], _∷_, _++_, append-nil, append-assoc}
 use mathlib.Core.Path.{_≡_, sym, ap, _∙_}
 use lib.ListN.{length, take, drop, length-take}
 use lib.Seq.{take-all, take-take, take-add, drop-drop}
+use Rattle.octets.specs.Stored.{Stored}
+use Rattle.octets.proofs.Stored.{none, join, same}
 use Rattle.cutter.specs.Lines.{ended, begun, last, run}
 use Rattle.cutter.proofs.Line.{Free}
 use Rattle.cutter.proofs.Lines.{ended-free, begun-free, ended-line, begun-line, ended-join, begun-join, begun-kept, run-join, run-kept}
-use Rattle.spell.specs.Added.{Added}
-use Rattle.spell.proofs.Added.{none, join, same}
 use Rattle.dump.specs.Commands.{answer}
 use Rattle.beside.specs.Fed.{Fed, answers, part}
 
 -- no bytes
 pub fed-none : (l out : List ℕ) (u : ℕ) → length l ≤ 1025 → Fed l [] out u out u l
 unfolding ended begun answers
-fed-none l out u h = record { added = none out u; kept = sym (take-all 1025 l h) }
+fed-none l out u h = record { stored = none out u; kept = sym (take-all 1025 l h) }
 
 -- a line ends
-pub fed-ended : (x l out o : List ℕ) (u r : ℕ) → Free 10 x → Added out u (answer (take 1025 (l ++ x))) o r → Fed l (x ++ (10 ∷ [])) out u o r []
+pub fed-ended : (x l out o : List ℕ) (u r : ℕ) → Free 10 x → Stored out u (answer (take 1025 (l ++ x))) o r → Fed l (x ++ (10 ∷ [])) out u o r []
 unfolding ended begun answers
 fed-ended x l out o u r f a = record {
-  added = same (sym (append-nil (answer (take 1025 (l ++ x)))) ∙ ap answers (sym (ended-line x l [] f))) a;
+  stored = same (sym (append-nil (answer (take 1025 (l ++ x)))) ∙ ap answers (sym (ended-line x l [] f))) a;
   kept = ap (take 1025) (sym (begun-line x l [] f));
 }
 
@@ -31,7 +31,7 @@ fed-ended x l out o u r f a = record {
 pub fed-open : (x l out : List ℕ) (u : ℕ) → Free 10 x → Fed l x out u out u (take 1025 (l ++ x))
 unfolding answers
 fed-open x l out u f = record {
-  added = same (ap answers (sym (ended-free x l f))) (none out u);
+  stored = same (ap answers (sym (ended-free x l f))) (none out u);
   kept = ap (take 1025) (sym (begun-free x l f));
 }
 
@@ -66,12 +66,12 @@ pub fed-join : {l s out m k t o j : List ℕ} {u v w : ℕ} → Fed l s out u m 
 fed-join {l} {s} {out} {m} {k} {t} {o} {j} {u} {v} {w} a b =
     let x = begun l s in
     record {
-      added =
+      stored =
           same
           (ap (λ (y : List ℕ). answers (ended l s) ++ y) (answers-kept t k x (front x k (a .kept)))
           ∙ sym (answers-join (ended l s) (ended x t))
           ∙ ap answers (sym (ended-join l s t)))
-          (join (a .added) (b .added));
+          (join (a .stored) (b .stored));
       kept = kept-join l s k t (a .kept) (b .kept);
     }
 

@@ -4,8 +4,8 @@ use Prim.Native.Nat.{ℕ, _-_, _≤_, _<_}
 use mathlib.Core.List.{List, [], _∷_, _++_}
 use mathlib.Core.Path.{_≡_}
 use lib.ListN.{take, drop}
+use Rattle.octets.specs.Stored.{Stored}
 use Rattle.cutter.specs.Lines.{ended, begun}
-use Rattle.spell.specs.Added.{Added}
 use Rattle.dump.specs.Commands.{answer}
 
 -- the answers to lines, one after the other
@@ -19,7 +19,7 @@ part chunk at to = take (to - at) (drop at chunk)
 
 -- with l kept of the line at hand, the bytes s lead from the buffer out, used up to a place, to the buffer o, used up to r, and m is kept
 pub record Fed (l s out : List ℕ) (used : ℕ) (o : List ℕ) (r : ℕ) (m : List ℕ) : Type 0 where
-  pub added : Added out used (answers (ended l s)) o r
+  pub stored : Stored out used (answers (ended l s)) o r
   pub kept : m ≡ take 1025 (begun l s)
 
 -- a step from a place of a chunk of so many bytes: to a later one, with as much of a line kept, and of the buffer used, as there is

@@ -1,12 +1,11 @@
 // The program that is held beside the Rust: for each command line of standard input its answer (oracle/FORMAT.md), in the same order. The
-// answers are made by `dump`; here are the cutting into lines, the reading and the writing. That an answer has room in the 4,096 bytes that
-// are left for it is not proved: as much of it as has room is written.
+// answers are made by `dump`; here are the cutting into lines, the reading and the writing.
 ghost use mathlib.Core.Bool.{true};
 ghost use mathlib.Core.Path.{_≡_};
-ghost use Prim.Native.Nat.{_≤_, _<_};
+ghost use Prim.Native.Nat.{_+_, _≤_, _<_};
 ghost use lib.ListN.{length, take};
 ghost use Rattle.cutter.specs.Lines.{begun, last};
-ghost use Rattle.spell.specs.Added.{Added};
+ghost use Rattle.octets.specs.Stored.{Stored};
 ghost use Rattle.beside.specs.Fed.{Fed, Onward, answers, part};
 use cutter::cut;
 use dump::put_answer;
@@ -44,9 +43,10 @@ struct Turn {
     next: u8,
 }
 
-// Takes a chunk from a place on up to the end of the line at hand, and adds the answer to that line where it ends.
+// Takes a chunk from a place on up to the end of the line at hand, and stores the answer to that line where it ends. Asks for room: the longest
+// answer has 1,033 bytes.
 fn put_line(chunk: &[u8], at: usize, line: &mut [u8], n: usize, out: &mut [u8], used: usize) -> Step
-    requires { ⌜ (n ≤ 1025) × (length (now line) ≡ 1025) × (at < length (now chunk)) × (used ≤ length (now out)) ⌝ }
+    requires { ⌜ (n ≤ 1025) × (length (now line) ≡ 1025) × (at < length (now chunk)) × (used + 1033 ≤ length (now out)) ⌝ }
     ensures { λ r. ⌜ Fed (take n (now (line .entry))) (part (now (chunk .entry)) at (r .at)) (now (out .entry)) used (now (out .exit)) (r .used) (take (r .n) (now (line .exit))) ⌝ }
     ensures { λ r. ⌜ Onward (length (now (chunk .entry))) (length (now (out .entry))) at (r .at) (r .n) (r .used) ⌝ }
 {
@@ -160,10 +160,10 @@ fn take_turn(chunk: &mut [u8], line: &mut [u8], n: usize, out: &mut [u8]) -> Tur
     }
 }
 
-// The end of the input: adds the answer to a last line that was not ended.
+// The end of the input: stores the answer to a last line that was not ended.
 fn finish(line: &[u8], n: usize, out: &mut [u8]) -> usize
-    requires { ⌜ (n ≤ 1025) × (length (now line) ≡ 1025) ⌝ }
-    ensures { λ r. ⌜ Added (now (out .entry)) 0 (answers (last (take n (now (line .entry))))) (now (out .exit)) r ⌝ }
+    requires { ⌜ (n ≤ 1025) × (length (now line) ≡ 1025) × (1033 ≤ length (now out)) ⌝ }
+    ensures { λ r. ⌜ Stored (now (out .entry)) 0 (answers (last (take n (now (line .entry))))) (now (out .exit)) r ⌝ }
     ensures { λ r. ⌜ r ≤ length (now (out .entry)) ⌝ }
 {
     if n == 0 {
@@ -174,7 +174,7 @@ fn finish(line: &[u8], n: usize, out: &mut [u8]) -> usize
 
 // Writes it.
 fn end(line: &[u8], n: usize, out: &mut [u8])
-    requires { ⌜ (n ≤ 1025) × (length (now line) ≡ 1025) ⌝ }
+    requires { ⌜ (n ≤ 1025) × (length (now line) ≡ 1025) × (1033 ≤ length (now out)) ⌝ }
 {
     let used = finish(line, n, out);
     if !io::write_all(STDOUT_FILENO, &out[..used]) {

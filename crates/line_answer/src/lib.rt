@@ -4,7 +4,7 @@ ghost use Prim.Native.Nat.{_+_, _≤_, _<_};
 ghost use lib.ListN.{length};
 ghost use Rattle.header.specs.Read.{readHeader, readOutcome};
 ghost use Rattle.line_answer.specs.Answer.{decimal, told, bad, answer};
-ghost use Rattle.line_answer.specs.Stored.{Stored};
+ghost use Rattle.octets.specs.Stored.{Stored};
 use cutter::copy;
 use cutter::find;
 use header::Header;

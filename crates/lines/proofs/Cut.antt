@@ -12,11 +12,11 @@ use Rattle.cutter.specs.declared.Taken.{Taken}
 use Rattle.cutter.specs.Line.{lineOf, lineEnds, fitting, taken}
 use Rattle.cutter.proofs.Line.{before-length, taken-kept, taken-end, taken-small, taken-feed, taken-all, taken-behind, taken-rest}
 use Rattle.line_answer.specs.Answer.{answer}
-use Rattle.line_answer.specs.Stored.{Stored}
+use Rattle.octets.specs.Stored.{Stored}
 use Rattle.lines.specs.Output.{Onward, fedTo}
 use Rattle.line_answer.proofs.Answer.{answer-front}
 use Rattle.lines.proofs.Output.{fed-ended, fed-open}
-use Rattle.line_answer.proofs.Stored.{same}
+use Rattle.octets.proofs.Stored.{same}
 
 module _ (chunk : List ℕ) (at : ℕ) (line : List ℕ) (n : ℕ) (r : Taken) (kept : List ℕ)
     (e : r ≡ taken (drop at chunk) at line n) (f : kept ≡ laid line n (fitting line n (lineOf (drop at chunk))))

@@ -15,7 +15,7 @@ use Rattle.cutter.specs.Lines.{ended, begun, last, lines, run, joined, inChunks
 use Rattle.cutter.proofs.Line.{Free, free-first, line-ended, line-open}
 use Rattle.cutter.proofs.Lines.{ended-free, begun-free, ended-line, begun-line, however-cut}
 use Rattle.line_answer.specs.Answer.{answer}
-use Rattle.line_answer.specs.Stored.{Stored}
+use Rattle.octets.specs.Stored.{Stored}
 use Rattle.lines.specs.Output.{answers, output, fedTo, printed}
 use Rattle.line_answer.proofs.Answer.{answer-front}
 

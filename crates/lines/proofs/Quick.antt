@@ -16,11 +16,11 @@ use Rattle.hex.specs.Hex.{unhex, decoded}
 use Rattle.hex.proofs.Hex.{unhex-take, whole-good}
 use Rattle.header.specs.Read.{readHeader, readOutcome}
 use Rattle.line_answer.specs.Answer.{told}
-use Rattle.line_answer.specs.Stored.{Stored}
+use Rattle.octets.specs.Stored.{Stored}
 use Rattle.lines.specs.Output.{fedTo, isAt}
 use Rattle.line_answer.proofs.Answer.{feed-foreign, foreign-free, answer-good}
 use Rattle.lines.proofs.Output.{fed-line}
-use Rattle.line_answer.proofs.Stored.{same}
+use Rattle.octets.proofs.Stored.{same}
 
 -- a byte is there, and is the one
 pub there : (s : List ℕ) (i b : ℕ) → isAt s i b ≡ true → (i < length s) × (getD s i 0 ≡ b)

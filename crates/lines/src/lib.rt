@@ -1,11 +1,11 @@
 // The line program on slices: what a chunk of the input adds to the output, and what its end adds. The functions ask for room
 // (`requires`); the line at hand is the first n bytes of a buffer of 1,025, one more than the longest line.
-ghost use mathlib.Core.List.{[]};
+ghost use mathlib.Core.List.{[], _++_};
 ghost use mathlib.Core.Path.{_≡_};
 ghost use Prim.Native.Nat.{_+_, _-_, _*_, _≤_, _<_};
-ghost use lib.ListN.{length, take, drop};
+ghost use lib.ListN.{length, take, drop, replicate};
 ghost use Rattle.cutter.specs.Lines.{last};
-ghost use Rattle.line_answer.specs.Stored.{Stored};
+ghost use Rattle.octets.specs.Stored.{Stored};
 ghost use Rattle.lines.specs.Output.{isAt, Onward, answers, fedTo};
 use cutter::cut;
 use cutter::find;
@@ -106,10 +106,9 @@ fn put_next(
     put_line(chunk, at, line, n, out, quick.used)
 }
 
-// A chunk of the input, of any length: stores the answers to the lines that end in it, from the beginning of out, and keeps what has come
-// of the next line, its first 1,025 bytes. Asks for a line of 1,025 bytes with at most as many in use, and for room: five bytes for each
-// of the chunk, and 1,025.
-pub fn feed(chunk: &[u8], line: &mut [u8], n: usize, out: &mut [u8]) -> Fed
+// A chunk of the input: stores the answers to the lines that end in it, and keeps what has come of the next line; behind that the line
+// buffer holds what it happens to.
+fn feed_lines(chunk: &[u8], line: &mut [u8], n: usize, out: &mut [u8]) -> Fed
     requires { ⌜ (n ≤ 1025) × (length (now line) ≡ 1025) × (1025 + 5 * length (now chunk) ≤ length (now out)) ⌝ }
     ensures { λ r. ⌜ record { out = now (out .exit); used = r .used; kept = take (r .n) (now (line .exit)) } ≡ fedTo (take n (now (line .entry))) (now (chunk .entry)) (now (out .entry)) 0 ⌝ }
     ensures { λ r. ⌜ (r .n ≤ 1025) × (r .used ≤ length (now (out .entry))) ⌝ }
@@ -125,6 +124,31 @@ pub fn feed(chunk: &[u8], line: &mut [u8], n: usize, out: &mut [u8]) -> Fed
         at = next.at;
     }
     Fed { n: held, used }
+}
+
+// Stores zeros from a place of a line buffer on.
+fn blank(line: &mut [u8], from: usize)
+    ensures { λ r. ⌜ now (line .exit) ≡ take from (now (line .entry)) ++ replicate (length (now (line .entry)) - from) 0 ⌝ }
+{
+    let mut i = from;
+    while i < line.len() {
+        line[i] = 0;
+        i += 1;
+    }
+}
+
+// A chunk of the input, of any length: stores the answers to the lines that end in it, from the beginning of out, and keeps what has come
+// of the next line, its first 1,025 bytes, with zeros behind it. Asks for a line of 1,025 bytes with at most as many in use, and for room:
+// five bytes for each of the chunk, and 1,025.
+pub fn feed(chunk: &[u8], line: &mut [u8], n: usize, out: &mut [u8]) -> Fed
+    requires { ⌜ (n ≤ 1025) × (length (now line) ≡ 1025) × (1025 + 5 * length (now chunk) ≤ length (now out)) ⌝ }
+    ensures { λ r. ⌜ record { out = now (out .exit); used = r .used; kept = take (r .n) (now (line .exit)) } ≡ fedTo (take n (now (line .entry))) (now (chunk .entry)) (now (out .entry)) 0 ⌝ }
+    ensures { λ r. ⌜ (r .n ≤ 1025) × (r .used ≤ length (now (out .entry))) ⌝ }
+    ensures { λ r. ⌜ now (line .exit) ≡ take (r .n) (now (line .exit)) ++ replicate (1025 - r .n) 0 ⌝ }
+{
+    let fed = feed_lines(chunk, line, n, out);
+    blank(line, fed.n);
+    fed
 }
 
 // The end of the input: stores the answer to a last line that was not ended. Asks that its n bytes are there, and for room: them and five.

@@ -4,3 +4,4 @@ pub mod Bits
 pub mod Order
 pub mod Each
 pub mod Part
+pub mod Stored

@@ -5,3 +5,4 @@ pub mod Order
 pub mod Outcome
 pub mod Part
 pub mod Value
+pub mod Stored

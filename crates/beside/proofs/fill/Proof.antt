@@ -6,7 +6,7 @@ use native.Mathlib.Omega.{arith}
 use mathlib.Core.List.{List}
 use mathlib.Core.Path.{_≡_, refl, sym, _∙_, subst}
 use borrow.Author.Needs.{needs}
-use borrow.Author.Tests.{leb-false}
+use borrow.Author.Tests.{leb-true, leb-false}
 use lib.ListN.{length, take, length-take}
 use Rattle.beside.specs.Fed.{Fed, part}
 use Rattle.beside.proofs.Fed.{fed-none, fed-part, part-none}
@@ -45,10 +45,13 @@ loop-holds c =
 
 room : tie.Need-put-line-requires Inv-loop μ-loop
 room c κs =
-    let t = c .before .before .before in
-    let i = t .before .loop .inv in
+    let few = c .before .before in
+    let t = few .before in
+    let l = t .before .loop in
+    let i = l .inv in
     let s = t .before .before .before .before .before in
-    (i .2, i .5 ∙ s .pre .1, t .loop-test .taken, omega (arith, i .3, i .6, s .pre .3))
+    let h : l .used ≤ 61440 = leb-true (l .used) 61440 (few .if1 .taken) in
+    (i .2, i .5 ∙ s .pre .1, t .loop-test .taken, omega (arith, h, i .6, s .pre .3))
 
 loop-less : tie.Need-loop-less Inv-loop μ-loop
 loop-less c =

@@ -5,8 +5,8 @@ use mathlib.Core.Path.{_≡_, sym}
 use borrow.Author.Needs.{needs}
 use lib.ListN.{length, take}
 use lib.Seq.{length-take-le}
-use Rattle.spell.proofs.Added.{none, same}
-use Rattle.beside.proofs.Added.{within}
+use Rattle.octets.proofs.Stored.{none, same}
+use Rattle.beside.proofs.Added.{answered, within}
 use Rattle.beside.proofs.Fed.{last-none, last-some}
 use Rattle.beside.proofs.finish.Statement.{statement}
 use Rattle.beside.proofs.finish.Tie as tie
@@ -23,8 +23,8 @@ some c =
     let p = c .before .before in
     let e = p .before .before .before in
     let s = e .before .before .before in
-    let a = p .put-answer .ensures in
-    (same (last-some _ (omega (arith, long e, e .if1 .left)) (omega (arith, long e, s .pre))) a, within a (omega arith))
+    let a = answered _ (p .put-answer .ensures) (s .pre .2) in
+    (same (last-some _ (omega (arith, long e, e .if1 .left)) (omega (arith, long e, s .pre))) a, within _ a (s .pre .2))
 
 pub finish-spec : {M : Type 1} → statement M
 finish-spec = tie.close (tie.spec nothing (λ c. sym (long (c .before))) (λ c κs. search needs) (λ c. search needs) some)

@@ -35,7 +35,7 @@ unended c =
     let s = k .before .before .before .before .before in
     let a = s .args in
     let r = cut-open (a .chunk .now) (a .at) (a .line .now) (a .n) (k .cut .result) _ (k .cut .ensures .0) (k .cut .ensures .1) (s .pre .0) (s .pre .1) (s .pre .2)
-    (a .out .now) (a .used) (c .if1 .left) (s .pre .3) in
+    (a .out .now) (a .used) (c .if1 .left) (omega (arith, s .pre .3)) in
     (r .0, r .1)
 
 pub put-line-spec : {M : Type 1} → statement M

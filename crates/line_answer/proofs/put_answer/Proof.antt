@@ -13,7 +13,7 @@ use Rattle.hex.proofs.Hex.{decoded-room}
 use Rattle.header.specs.Read.{readHeader, readOutcome}
 use Rattle.line_answer.specs.Answer.{told}
 use Rattle.line_answer.proofs.Answer.{answer-long, answer-tabless, line-good, line-part}
-use Rattle.line_answer.proofs.Stored.{same, front}
+use Rattle.octets.proofs.Stored.{same, front}
 use Rattle.line_answer.proofs.put_answer.Statement.{statement}
 use Rattle.line_answer.proofs.put_answer.Tie as tie
 

@@ -4,7 +4,7 @@ use native.Mathlib.Omega.{arith}
 use borrow.Author.Needs.{needs}
 use lib.ListN.{length-set}
 use Rattle.line_answer.specs.Answer.{bad}
-use Rattle.line_answer.proofs.Stored.{four}
+use Rattle.octets.proofs.Stored.{four}
 use Rattle.line_answer.proofs.put_bad.Statement.{statement}
 use Rattle.line_answer.proofs.put_bad.Tie as tie
 

@@ -8,8 +8,8 @@ use lib.ListN.{length}
 use lib.Seq.{take-all}
 use Rattle.header.specs.Read.{readHeader, readOutcome}
 use Rattle.header.proofs.Bounds.{read-number, read-length}
-use Rattle.line_answer.specs.Stored.{Stored}
-use Rattle.line_answer.proofs.Stored.{join, same}
+use Rattle.octets.specs.Stored.{Stored}
+use Rattle.octets.proofs.Stored.{join, same}
 use Rattle.line_answer.proofs.put_good.Statement.{statement}
 use Rattle.line_answer.proofs.put_good.Tie as tie
 

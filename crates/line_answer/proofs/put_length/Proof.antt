@@ -4,7 +4,7 @@ use native.Mathlib.Omega.{arith}
 use borrow.Author.Needs.{needs}
 use borrow.Author.Tests.{lt-ltb, le-ltb}
 use lib.ListN.{length-set}
-use Rattle.line_answer.proofs.Stored.{two, three}
+use Rattle.octets.proofs.Stored.{two, three}
 use Rattle.line_answer.proofs.put_length.Statement.{statement}
 use Rattle.line_answer.proofs.put_length.Tie as tie
 

@@ -5,7 +5,7 @@ use mathlib.Core.Path.{_∙_}
 use borrow.Author.Needs.{needs}
 use lib.ListN.{length-set}
 use Rattle.line_answer.specs.Answer.{told}
-use Rattle.line_answer.proofs.Stored.{three, join}
+use Rattle.octets.proofs.Stored.{three, join}
 use Rattle.line_answer.proofs.put_told.Statement.{statement}
 use Rattle.line_answer.proofs.put_told.Tie as tie
 

@@ -1,72 +1,33 @@
--- `lines::feed` meets its contract. The invariant: what is left of the chunk leads from here to where the whole chunk leads.
+-- `lines::feed` meets its contract: what is kept of the next line stays, and zeros stand behind it.
 -- Assumes nothing.
-use Prim.Native.Nat.{ℕ, _+_, _-_, _*_, _≤_}
+use Prim.Native.Nat.{ℕ, _-_, _≤_}
 use native.Mathlib.Omega.{arith}
-use mathlib.Core.List.{List}
-use mathlib.Core.Path.{_≡_, refl, sym, ap, _∙_}
+use mathlib.Core.List.{List, _++_}
+use mathlib.Core.Path.{_≡_, sym, ap, _∙_}
 use borrow.Author.Needs.{needs}
-use lib.ListN.{length, take, drop, length-replicate, drop-of-length-le}
-use lib.Seq.{length-take-le}
-use Rattle.lines.specs.Output.{fedTo}
-use Rattle.lines.proofs.Output.{fed-done}
+use lib.ListN.{length, take, replicate}
+use lib.Seq.{length-take-le, take-at}
 use Rattle.lines.proofs.feed.Statement.{statement}
 use Rattle.lines.proofs.feed.Tie as tie
 
-abbrev Inv-loop : tie.InvT-loop
-Inv-loop chunk line₀ n out₀ frame₀ held₀ used₀ at₀ line out frame held used at =
-    (at ≤ length chunk)
-    × (held ≤ 1025)
-    × (length line ≡ length line₀)
-    × (length out ≡ length out₀)
-    × (length frame ≡ 512)
-    × (used + held + 5 * (length chunk - at) ≤ 1025 + 5 * length chunk)
-    × (fedTo (take held line) (drop at chunk) out used ≡ fedTo (take n line₀) chunk out₀ 0)
+-- a line buffer l with n bytes in use, and the same with zeros behind them
+module _ (l m : List ℕ) (n : ℕ) (long : length l ≡ 1025) (h : n ≤ 1025) (e : m ≡ take n l ++ replicate (length l - n) 0) where
+  kept : take n m ≡ take n l
+  kept = ap (take n) e ∙ take-at (take n l) (replicate (length l - n) 0) n (length-take-le n l (omega arith))
 
-abbrev μ-loop : tie.MeasureT-loop
-μ-loop chunk line₀ n out₀ frame₀ held₀ used₀ at₀ line out frame held used at = length chunk - at
+  zeros : m ≡ take n m ++ replicate (1025 - n) 0
+  zeros = e ∙ ap (λ (k : ℕ). take n l ++ replicate (k - n) 0) long ∙ ap (λ (t : List ℕ). t ++ replicate (1025 - n) 0) (sym kept)
 
-loop-holds : tie.Need-loop-holds Inv-loop μ-loop
-loop-holds c = (omega arith, omega arith, refl, refl, length-replicate {A = ℕ} 512 0, omega arith, refl)
-
-room : tie.Need-put-next-requires Inv-loop μ-loop
-room c κs =
-    let t = c .before .before .before in
-    let l = t .before .loop in
-    let p = t .before .before .before .before .before .pre in
-    (l .inv .1, l .inv .2 ∙ p .1, t .loop-test .taken, l .inv .4, omega (arith, l .inv .5, l .inv .3, p .2))
-
-loop-less : tie.Need-loop-less Inv-loop μ-loop
-loop-less c =
-    let p = c .before .before .before .before .before in
-    omega (arith, p .put-next .ensures .1 .later, p .put-next .ensures .1 .within)
-
-loop-again : tie.Need-loop-again Inv-loop μ-loop
-loop-again c =
-    let p = c .before .before .before .before .before in
-    let l = p .before .before .before .before .before .loop in
-    let e = p .put-next .ensures in
-    let k = p .put-next .kept in (
-      e .1 .within,
-      e .1 .small,
-      k .1 .1 .0 ∙ l .inv .2,
-      k .1 .1 .1 .1 .1 .0 ∙ l .inv .3,
-      k .1 .1 .1 .1 .0 ∙ l .inv .4,
-      omega (arith, e .1 .room, l .inv .5),
-      e .0 ∙ l .inv .6,
-    )
-
-returns : tie.Need-returns Inv-loop μ-loop
+returns : tie.Need-returns
 returns c =
-    let l = c .before .loop in
-    let s = c .before .before .before .before .before in
-    let a = s .args in
-    let e = drop-of-length-le (a .chunk .now) (c .loop-test .left) in
-    let h : length (take (l .held) (l .line)) ≤ 1025 = omega (arith, length-take-le (l .held) (l .line) (omega (arith, l .inv .1, l .inv .2, s .pre .1)), l .inv .1) in (
-      fed-done (take (l .held) (l .line)) (l .out) (l .used) h ∙ ap (λ (t : List ℕ). fedTo (take (l .held) (l .line)) t (l .out) (l .used)) (sym e) ∙ l .inv .6,
-      (l .inv .1, omega (arith, l .inv .5, l .inv .0, s .pre .2)),
+    let b = c .before .before in
+    let f = b .before .before .before .before .before .before in
+    let s = f .before .before .before .before .before .before in
+    let fed = f .feed-lines .ensures in
+    let long = f .feed-lines .kept .1 .0 ∙ s .pre .1 in (
+      rw (kept _ _ (f .feed-lines .result .n) long (fed .1 .0) (b .blank .ensures)) (fed .0),
+      (fed .1, zeros _ _ (f .feed-lines .result .n) long (fed .1 .0) (b .blank .ensures)),
     )
 
 pub feed-spec : {M : Type 1} → statement M
-feed-spec =
-    tie.close
-    (tie.spec Inv-loop μ-loop loop-holds (λ c. search needs) room loop-less loop-again (λ c. c .before .loop .inv .2) (λ c. c .before .loop .inv .3) returns)
+feed-spec = tie.close (tie.spec (λ c κs. search needs) (λ c κs. search needs) (λ c. search needs) (λ c. search needs) returns)

@@ -6,7 +6,7 @@ use borrow.Author.Needs.{needs}
 use lib.ListN.{length, take}
 use lib.Seq.{length-take-le}
 use Rattle.lines.proofs.Output.{last-none, last-some}
-use Rattle.line_answer.proofs.Stored.{none, same}
+use Rattle.octets.proofs.Stored.{none, same}
 use Rattle.lines.proofs.finish.Statement.{statement}
 use Rattle.lines.proofs.finish.Tie as tie
 

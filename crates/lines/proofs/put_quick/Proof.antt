@@ -16,7 +16,7 @@ use Rattle.header.specs.Read.{readHeader, readOutcome}
 use Rattle.line_answer.specs.Answer.{told}
 use Rattle.lines.specs.Output.{isAt}
 use Rattle.lines.proofs.Quick.{there, quick-fed}
-use Rattle.line_answer.proofs.Stored.{same, front}
+use Rattle.octets.proofs.Stored.{same, front}
 use Rattle.lines.proofs.put_quick.Statement.{statement}
 use Rattle.lines.proofs.put_quick.Tie as tie
 

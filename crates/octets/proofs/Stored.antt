@@ -8,9 +8,9 @@ use mathlib.Core.List.{List, [], _∷_, _++_}
 use mathlib.Core.Path.{_≡_, refl, sym, ap, _∙_, subst}
 use lib.ListN.{length, set, take, drop, length-append}
 use lib.Seq.{take-at}
 use Rattle.octets.specs.Buffer.{laid}
 use Rattle.octets.proofs.Buffer.{laid-none, laid-join, laid-all}
-use Rattle.line_answer.specs.Stored.{Stored}
+use Rattle.octets.specs.Stored.{Stored}
 
 pub none : (l : List ℕ) (at : ℕ) → Stored l at [] l at
 none l at = record { bytes = sym (laid-none l at); next = sym (add-zero at) }
