@@ -18,8 +18,8 @@ use Rattle.identifiers.specs.declared.ShortAddress.{ShortAddress}
 use Rattle.identifiers.specs.declared.ExtendedAddress.{ExtendedAddress}
 use Rattle.identifiers.specs.ShortAddress.{short}
 use Rattle.identifiers.specs.ExtendedAddress.{extended}
-use Rattle.seven.specs.Seven.{reset}
-use Rattle.seven.proofs.Seven.{seven-length, seven-same, each-length}
+use Rattle.seven_places.specs.Seven.{reset}
+use Rattle.seven_places.proofs.Seven.{seven-length, seven-same, each-length}
 use Rattle.pending.specs.declared.PendingAddress.{PendingAddress}
 use Rattle.pending.specs.declared.PendingRead.{PendingRead}
 use Rattle.pending.specs.Addresses.{shortAt, extendedAt, emptyShort, emptyExtended, shortsIn, extendedsIn, shortBytes, extendedBytes}

@@ -17,8 +17,8 @@ use Rattle.octets.specs.Little.{number, split, Bytes}
 use Rattle.octets.proofs.Bits.{bit-back, bit-small}
 use Rattle.octets.proofs.Each.{same}
 use Rattle.octets.proofs.Little.{split-length, split-bytes, bytes-append, number-more}
-use Rattle.seven.specs.Seven.{reset, some}
-use Rattle.seven.proofs.Seven.{seven-length, seven-same, some-fails}
+use Rattle.seven_places.specs.Seven.{reset, some}
+use Rattle.seven_places.proofs.Seven.{seven-length, seven-same, some-fails}
 use Rattle.time_slot.specs.declared.Direction.{Direction}
 use Rattle.time_slot.specs.declared.Direction.the-variants.{Receive, Transmit}
 use Rattle.time_slot.specs.declared.GuaranteedTimeSlotDescriptor.{GuaranteedTimeSlotDescriptor}

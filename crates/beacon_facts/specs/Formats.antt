@@ -6,7 +6,7 @@ use lib.ListN.{length, getD}
 use Rattle.octets.specs.Outcome.{accepted}
 use Rattle.identifiers.specs.declared.ShortAddress.{ShortAddress}
 use Rattle.identifiers.specs.declared.ExtendedAddress.{ExtendedAddress}
-use Rattle.seven.specs.Seven.{reset}
+use Rattle.seven_places.specs.Seven.{reset}
 use Rattle.superframe.specs.declared.SuperframeSpecification.{SuperframeSpecification}
 use Rattle.superframe.specs.declared.SuperframeRead.{SuperframeRead}
 use Rattle.superframe.specs.Superframe.{readSuperframe, superframeBytes, superframeTooLarge, writeSuperframe}

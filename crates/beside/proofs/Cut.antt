@@ -11,9 +11,9 @@ use lib.Seq.{take-append-add}
 use Rattle.octets.specs.Buffer.{laid}
 use Rattle.octets.specs.Stored.{Stored}
 use Rattle.octets.proofs.Stored.{same}
-use Rattle.cutter.specs.declared.Taken.{Taken}
-use Rattle.cutter.specs.Line.{lineOf, lineEnds, behind, fitting, taken}
-use Rattle.cutter.proofs.Line.{before-length, before-part, free-first, line-ended, taken-kept, taken-end, taken-small, taken-feed, taken-all}
+use Rattle.line_cutter.specs.declared.Taken.{Taken}
+use Rattle.line_cutter.specs.Line.{lineOf, lineEnds, behind, fitting, taken}
+use Rattle.line_cutter.proofs.Line.{before-length, before-part, free-first, line-ended, taken-kept, taken-end, taken-small, taken-feed, taken-all}
 use Rattle.spell.specs.Added.{Added}
 use Rattle.dump.specs.Commands.{answer}
 use Rattle.beside.specs.Fed.{Fed, Onward, part}

@@ -8,9 +8,9 @@ use lib.ListN.{length, take, drop, length-take}
 use lib.Seq.{take-all, take-take, take-add, drop-drop}
 use Rattle.octets.specs.Stored.{Stored}
 use Rattle.octets.proofs.Stored.{none, join, same}
-use Rattle.cutter.specs.Lines.{ended, begun, last, run}
-use Rattle.cutter.proofs.Line.{Free}
-use Rattle.cutter.proofs.Lines.{ended-free, begun-free, ended-line, begun-line, ended-join, begun-join, begun-kept, run-join, run-kept}
+use Rattle.line_cutter.specs.Lines.{ended, begun, last, run}
+use Rattle.line_cutter.proofs.Line.{Free}
+use Rattle.line_cutter.proofs.Lines.{ended-free, begun-free, ended-line, begun-line, ended-join, begun-join, begun-kept, run-join, run-kept}
 use Rattle.dump.specs.Commands.{answer}
 use Rattle.beside.specs.Fed.{Fed, answers, part}
 

@@ -5,7 +5,7 @@ use mathlib.Core.List.{List, [], _∷_, _++_}
 use mathlib.Core.Path.{_≡_}
 use lib.ListN.{take, drop}
 use Rattle.octets.specs.Stored.{Stored}
-use Rattle.cutter.specs.Lines.{ended, begun}
+use Rattle.line_cutter.specs.Lines.{ended, begun}
 use Rattle.dump.specs.Commands.{answer}
 
 -- the answers to lines, one after the other

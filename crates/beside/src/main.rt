@@ -4,13 +4,13 @@ ghost use mathlib.Core.Bool.{true};
 ghost use mathlib.Core.Path.{_≡_};
 ghost use Prim.Native.Nat.{_+_, _≤_, _<_};
 ghost use lib.ListN.{length, take};
-ghost use Rattle.cutter.specs.Lines.{begun, last};
+ghost use Rattle.line_cutter.specs.Lines.{begun, last};
 ghost use Rattle.octets.specs.Stored.{Stored};
 ghost use Rattle.beside.specs.Fed.{Fed, Onward, answers, part};
-use cutter::cut;
 use dump::put_answer;
 use libc::STDIN_FILENO;
 use libc::STDOUT_FILENO;
+use line_cutter::cut;
 
 // What comes after a turn: another one, the end of the input, or nothing, since an error was told.
 const MORE: u8 = 0;

@@ -1,4 +1,4 @@
--- What measuring and copying leave is what rewriting promises of the two slices: demand 3 of a header and of a beacon.
+-- What measuring and clearing leave is what rewriting promises of the two slices: demand 3 of a header and of a beacon.
 -- Assumes nothing.
 use Prim.Native.Nat.{ℕ, zero, suc, _+_, _-_, _≤_, _<_}
 use native.Mathlib.Omega.{arith}

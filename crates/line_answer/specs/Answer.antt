@@ -6,7 +6,7 @@ use lib.Dec.{ltb, eqb}
 use lib.ListN.{length, drop}
 use Rattle.octets.specs.declared.Outcome.{Outcome}
 use Rattle.octets.specs.Order.{first}
-use Rattle.cutter.specs.Line.{before}
+use Rattle.line_cutter.specs.Line.{before}
 use Rattle.hex.specs.Hex.{odd, foreign, unhex}
 use Rattle.header.specs.Read.{readHeader, readOutcome}
 

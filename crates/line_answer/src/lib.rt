@@ -5,10 +5,10 @@ ghost use lib.ListN.{length};
 ghost use Rattle.header.specs.Read.{readHeader, readOutcome};
 ghost use Rattle.line_answer.specs.Answer.{decimal, told, bad, answer};
 ghost use Rattle.octets.specs.Stored.{Stored};
-use cutter::copy;
-use cutter::find;
 use header::Header;
 use hex::decode;
+use line_cutter::copy;
+use line_cutter::find;
 use octets::Outcome;
 
 // Stores a number below 100 in decimal and a line feed.

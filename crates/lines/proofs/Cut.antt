@@ -8,9 +8,9 @@ use mathlib.Core.Path.{_≡_, sym, ap, _∙_}
 use borrow.Author.Tests.{ltb-true, ltb-false}
 use lib.ListN.{length, take, drop, length-drop}
 use Rattle.octets.specs.Buffer.{laid}
-use Rattle.cutter.specs.declared.Taken.{Taken}
-use Rattle.cutter.specs.Line.{lineOf, lineEnds, fitting, taken}
-use Rattle.cutter.proofs.Line.{before-length, taken-kept, taken-end, taken-small, taken-feed, taken-all, taken-behind, taken-rest}
+use Rattle.line_cutter.specs.declared.Taken.{Taken}
+use Rattle.line_cutter.specs.Line.{lineOf, lineEnds, fitting, taken}
+use Rattle.line_cutter.proofs.Line.{before-length, taken-kept, taken-end, taken-small, taken-feed, taken-all, taken-behind, taken-rest}
 use Rattle.line_answer.specs.Answer.{answer}
 use Rattle.octets.specs.Stored.{Stored}
 use Rattle.lines.specs.Output.{Onward, fedTo}

@@ -10,10 +10,10 @@ use lib.ListN.{length, take, drop, length-append}
 use lib.Seq.{take-all, take-take}
 use Rattle.octets.specs.Buffer.{laid}
 use Rattle.octets.proofs.Buffer.{laid-none, laid-join}
-use Rattle.cutter.specs.Line.{lineOf, lineEnds, behind}
-use Rattle.cutter.specs.Lines.{ended, begun, last, lines, run, joined, inChunks}
-use Rattle.cutter.proofs.Line.{Free, free-first, line-ended, line-open}
-use Rattle.cutter.proofs.Lines.{ended-free, begun-free, ended-line, begun-line, however-cut}
+use Rattle.line_cutter.specs.Line.{lineOf, lineEnds, behind}
+use Rattle.line_cutter.specs.Lines.{ended, begun, last, lines, run, joined, inChunks}
+use Rattle.line_cutter.proofs.Line.{Free, free-first, line-ended, line-open}
+use Rattle.line_cutter.proofs.Lines.{ended-free, begun-free, ended-line, begun-line, however-cut}
 use Rattle.line_answer.specs.Answer.{answer}
 use Rattle.octets.specs.Stored.{Stored}
 use Rattle.lines.specs.Output.{answers, output, fedTo, printed}

@@ -10,8 +10,8 @@ use lib.Dec.{ltb}
 use lib.ListN.{length, getD, take, drop, length-append, length-drop}
 use lib.Seq.{split-at, getD-drop, drop-drop, length-take-le}
 use Rattle.octets.proofs.Order.{cases, holds?}
-use Rattle.cutter.specs.Line.{before}
-use Rattle.cutter.proofs.Line.{Free, free-append, free-first, free-second, before-part}
+use Rattle.line_cutter.specs.Line.{before}
+use Rattle.line_cutter.proofs.Line.{Free, free-append, free-first, free-second, before-part}
 use Rattle.hex.specs.Hex.{unhex, decoded}
 use Rattle.hex.proofs.Hex.{unhex-take, whole-good}
 use Rattle.header.specs.Read.{readHeader, readOutcome}

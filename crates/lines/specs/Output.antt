@@ -5,7 +5,7 @@ use mathlib.Core.List.{List, [], _∷_, _++_}
 use lib.Dec.{ltb, eqb}
 use lib.ListN.{length, getD, take}
 use Rattle.octets.specs.Buffer.{laid}
-use Rattle.cutter.specs.Lines.{ended, begun, last, lines}
+use Rattle.line_cutter.specs.Lines.{ended, begun, last, lines}
 use Rattle.line_answer.specs.Answer.{answer}
 
 -- the answers to lines, one after the other

@@ -4,14 +4,14 @@ ghost use mathlib.Core.List.{[], _++_};
 ghost use mathlib.Core.Path.{_≡_};
 ghost use Prim.Native.Nat.{_+_, _-_, _*_, _≤_, _<_};
 ghost use lib.ListN.{length, take, drop, replicate};
-ghost use Rattle.cutter.specs.Lines.{last};
+ghost use Rattle.line_cutter.specs.Lines.{last};
 ghost use Rattle.octets.specs.Stored.{Stored};
 ghost use Rattle.lines.specs.Output.{isAt, Onward, answers, fedTo};
-use cutter::cut;
-use cutter::find;
 use hex::decode;
 use line_answer::put_answer;
 use line_answer::put_good;
+use line_cutter::cut;
+use line_cutter::find;
 
 // How many bytes of the line at hand are kept, and how much of the output is used.
 pub struct Fed {

@@ -6,7 +6,7 @@ use Rattle.identifiers.specs.declared.ShortAddress.{ShortAddress}
 use Rattle.identifiers.specs.declared.ExtendedAddress.{ExtendedAddress}
 use Rattle.identifiers.specs.ShortAddress.{short}
 use Rattle.identifiers.specs.ExtendedAddress.{extended}
-use Rattle.seven.specs.Seven.{seven}
+use Rattle.seven_places.specs.Seven.{seven}
 
 -- address k of the list at a place
 unfoldable pub shortAt : List ℕ → ℕ → ℕ → ShortAddress

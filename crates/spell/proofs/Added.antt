@@ -12,7 +12,7 @@ use lib.Seq.{take-all, take-nil, take-append-le, take-append-add}
 use Rattle.octets.specs.Buffer.{laid}
 use Rattle.octets.proofs.Buffer.{laid-none, laid-join, laid-length}
 use Rattle.octets.proofs.Order.{cases, holds?}
-use Rattle.cutter.specs.Line.{fitting}
+use Rattle.line_cutter.specs.Line.{fitting}
 use Rattle.spell.specs.Added.{Added}
 
 -- no room: nothing is added

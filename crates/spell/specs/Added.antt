@@ -4,7 +4,7 @@ use mathlib.Core.List.{List}
 use mathlib.Core.Path.{_≡_}
 use lib.ListN.{length}
 use Rattle.octets.specs.Buffer.{laid}
-use Rattle.cutter.specs.Line.{fitting}
+use Rattle.line_cutter.specs.Line.{fitting}
 
 -- o is the buffer l with b added from a place on, and r is the place behind it
 pub record Added (l : List ℕ) (at : ℕ) (b o : List ℕ) (r : ℕ) : Type 0 where

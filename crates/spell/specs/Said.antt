@@ -3,7 +3,7 @@ use Prim.Native.Nat.{ℕ}
 use mathlib.Core.List.{List}
 use Rattle.octets.specs.declared.Outcome.{Outcome}
 use Rattle.octets.specs.Buffer.{laid}
-use Rattle.cutter.specs.Line.{fitting}
+use Rattle.line_cutter.specs.Line.{fitting}
 
 -- an outcome, and the bytes that go with it: the record that was read, spelled out, or what is written
 pub record Said : Type 0 where

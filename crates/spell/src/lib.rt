@@ -4,7 +4,7 @@ ghost use mathlib.Core.Path.{_≡_};
 ghost use Rattle.octets.specs.Little.{split};
 ghost use Rattle.spell.specs.Added.{Added};
 ghost use Rattle.spell.specs.Text.{hexDigit, hexPair, hexOf, decimal, folded, told};
-use cutter::copy;
+use line_cutter::copy;
 use octets::Outcome;
 
 // Adds a byte and returns the place behind it.

@@ -3,7 +3,7 @@
 use Prim.Native.Nat.{ℕ, _+_, _≤_, _<_}
 use mathlib.Core.List.{List, flatMap}
 use lib.ListN.{length, getD, take, drop}
-use Rattle.seven.proofs.Seven.{rest-next, rest-none}
+use Rattle.seven_places.proofs.Seven.{rest-next, rest-none}
 use Rattle.spell.specs.Added.{Added}
 use Rattle.spell.proofs.Added.{Onto, onto-next, onto-end}
 

@@ -7,7 +7,7 @@ use lib.ListN.{take}
 use Rattle.octets.specs.Bits.{bitOf}
 use Rattle.octets.specs.Little.{split, number}
 use Rattle.identifiers.specs.ShortAddress.{short}
-use Rattle.seven.specs.Seven.{seven}
+use Rattle.seven_places.specs.Seven.{seven}
 use Rattle.time_slot.specs.declared.GuaranteedTimeSlotDescriptor.{GuaranteedTimeSlotDescriptor}
 use Rattle.time_slot.specs.Direction.{directionBit, directionOf}
 use Rattle.time_slot.specs.Descriptor.{descriptorOf, emptyDescriptor}

@@ -14,8 +14,8 @@ use Rattle.octets.specs.Outcome.{accepted}
 use Rattle.octets.specs.Part.{ends}
 use Rattle.octets.proofs.Order.{cases, holds?, neither}
 use Rattle.octets.proofs.Little.{split-length}
-use Rattle.seven.specs.Seven.{some}
-use Rattle.seven.proofs.Seven.{rest-next, each-length}
+use Rattle.seven_places.specs.Seven.{some}
+use Rattle.seven_places.proofs.Seven.{rest-next, each-length}
 use Rattle.time_slot.specs.declared.Direction.{Direction}
 use Rattle.time_slot.specs.declared.Direction.the-variants.{Receive, Transmit}
 use Rattle.time_slot.specs.declared.GuaranteedTimeSlotDescriptor.{GuaranteedTimeSlotDescriptor}

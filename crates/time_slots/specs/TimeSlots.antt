@@ -12,7 +12,7 @@ use Rattle.octets.specs.Outcome.{accepted, refused}
 use Rattle.octets.specs.Part.{ends}
 use Rattle.octets.specs.declared.ValueWritten.{ValueWritten}
 use Rattle.octets.specs.Value.{writeValue}
-use Rattle.seven.specs.Seven.{seven, some}
+use Rattle.seven_places.specs.Seven.{seven, some}
 use Rattle.time_slot.specs.declared.GuaranteedTimeSlotDescriptor.{GuaranteedTimeSlotDescriptor}
 use Rattle.time_slot.specs.Direction.{directionBit, directionOf}
 use Rattle.time_slot.specs.Descriptor.{emptyDescriptor, descriptorIn, descriptorBytes, descriptorTooLarge}

@@ -8,7 +8,7 @@ ghost use Prim.Native.Nat.{_+_, _-_, _*_, _≤_, _<_};
 ghost use lib.ListN.{length, take};
 ghost use Rattle.octets.specs.Buffer.{laid, after};
 ghost use Rattle.octets.specs.Value.{valueOutcome};
-ghost use Rattle.seven.specs.Seven.{some};
+ghost use Rattle.seven_places.specs.Seven.{some};
 ghost use Rattle.time_slot.specs.Descriptor.{descriptorBytes, descriptorTooLarge};
 ghost use Rattle.time_slots.specs.TimeSlots.{slotsLength, slotsDemand, slotAt, slotsIn, emptyTimeSlots, timeSlotsRefused, readTimeSlots, directionsOf, listBytes, timeSlotsHeader, timeSlotsBytes, timeSlotsSize, timeSlotsTooLarge, writeTimeSlots};
 use octets::Outcome;

@@ -8,7 +8,7 @@ use mathlib.Core.Path.{_≡_, refl, sym, ap, _∙_}
 use borrow.Author.Needs.{needs}
 use lib.ListN.{length, take, length-take}
 use lib.Seq.{length-take-le}
-use Rattle.cutter.specs.Lines.{begun}
+use Rattle.line_cutter.specs.Lines.{begun}
 use Rattle.beside.specs.Fed.{part}
 use Rattle.beside.proofs.Fed.{kept-none, kept-join, part-first}
 use Rattle.beside.proofs.feed.Statement.{statement}

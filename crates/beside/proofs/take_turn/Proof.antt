@@ -6,7 +6,7 @@ use mathlib.Core.List.{List, []}
 use mathlib.Core.Path.{_≡_, ap, _∙_}
 use borrow.Author.Needs.{needs}
 use lib.ListN.{take, length-take}
-use Rattle.cutter.specs.Lines.{begun}
+use Rattle.line_cutter.specs.Lines.{begun}
 use Rattle.beside.proofs.Fed.{kept-none, first}
 use Rattle.beside.proofs.take_turn.Statement.{statement}
 use Rattle.beside.proofs.take_turn.Tie as tie

@@ -4,7 +4,7 @@ use native.Mathlib.Omega.{arith}
 use borrow.Author.Needs.{needs}
 use Rattle.octets.proofs.Little.{split-length}
 use Rattle.octets.proofs.Buffer.{laid-two}
-use Rattle.seven.proofs.Seven.{each-length}
+use Rattle.seven_places.proofs.Seven.{each-length}
 use Rattle.pending.specs.Addresses.{shortBytes}
 use Rattle.pending.proofs.put_lists.Statement.{statement}
 use Rattle.pending.proofs.put_lists.Tie as tie

@@ -3,7 +3,7 @@
 use Prim.Native.Nat.{_-_, _≤_}
 use native.Mathlib.Omega.{arith}
 use mathlib.Core.Path.{_≡_, sym, ap, _∙_}
-use Rattle.seven.proofs.Seven.{seven-none, seven-more}
+use Rattle.seven_places.proofs.Seven.{seven-none, seven-more}
 use Rattle.pending.specs.Addresses.{shortAt, shortsIn}
 use Rattle.pending.proofs.shorts_at.Statement.{statement}
 use Rattle.pending.proofs.shorts_at.Tie as tie

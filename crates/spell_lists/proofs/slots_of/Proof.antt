@@ -4,8 +4,8 @@ use Prim.Native.Nat.{ℕ, _+_, _-_, _*_, _≤_}
 use native.Mathlib.Omega.{arith}
 use mathlib.Core.Path.{_≡_, sym, ap, _∙_}
 use borrow.Author.Needs.{needs}
-use Rattle.seven.specs.Seven.{seven}
-use Rattle.seven.proofs.Seven.{seven-none, seven-more}
+use Rattle.seven_places.specs.Seven.{seven}
+use Rattle.seven_places.proofs.Seven.{seven-none, seven-more}
 use Rattle.time_slot.specs.Descriptor.{emptyDescriptor}
 use Rattle.spell_lists.specs.Slots.{slotOf}
 use Rattle.spell_lists.proofs.slots_of.Statement.{statement}

@@ -5,7 +5,7 @@ use native.Mathlib.Omega.{arith}
 use mathlib.Core.Path.{_≡_, _∙_}
 use borrow.Author.Needs.{needs}
 use lib.ListN.{take, drop}
-use Rattle.seven.proofs.Seven.{rest-none}
+use Rattle.seven_places.proofs.Seven.{rest-none}
 use Rattle.time_slots.specs.TimeSlots.{directionsOf}
 use Rattle.time_slots.proofs.TimeSlots.{directions-more, directions-bound}
 use Rattle.time_slots.proofs.directions.Statement.{statement}

@@ -6,7 +6,7 @@ use mathlib.Core.List.{flatMap}
 use mathlib.Core.Path.{_≡_, refl, sym, _∙_}
 use lib.ListN.{length, take, drop}
 use Rattle.octets.specs.Buffer.{laid}
-use Rattle.seven.proofs.Seven.{some-fails, put-next, put-done}
+use Rattle.seven_places.proofs.Seven.{some-fails, put-next, put-done}
 use Rattle.time_slot.specs.Descriptor.{descriptorBytes, descriptorTooLarge}
 use Rattle.time_slot.proofs.Descriptor.{descriptor-length}
 use Rattle.time_slots.proofs.put_slots.Statement.{statement}

@@ -4,7 +4,7 @@ use Prim.Native.Nat.{_-_, _≤_}
 use native.Mathlib.Omega.{arith}
 use mathlib.Core.Path.{_≡_, sym, ap, _∙_}
 use borrow.Author.Needs.{needs}
-use Rattle.seven.proofs.Seven.{seven-none, seven-more}
+use Rattle.seven_places.proofs.Seven.{seven-none, seven-more}
 use Rattle.time_slots.specs.TimeSlots.{slotsIn}
 use Rattle.time_slots.proofs.TimeSlots.{length-some}
 use Rattle.time_slots.proofs.slots_at.Statement.{statement}

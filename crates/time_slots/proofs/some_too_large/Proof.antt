@@ -5,8 +5,8 @@ use native.Mathlib.Omega.{arith}
 use mathlib.Core.Path.{_≡_, refl, sym, _∙_}
 use borrow.Author.Needs.{needs}
 use lib.ListN.{take, drop}
-use Rattle.seven.specs.Seven.{some}
-use Rattle.seven.proofs.Seven.{some-none, some-found, some-passed}
+use Rattle.seven_places.specs.Seven.{some}
+use Rattle.seven_places.proofs.Seven.{some-none, some-found, some-passed}
 use Rattle.time_slot.specs.Descriptor.{descriptorTooLarge}
 use Rattle.time_slots.proofs.some_too_large.Statement.{statement}
 use Rattle.time_slots.proofs.some_too_large.Tie as tie

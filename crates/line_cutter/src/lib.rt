@@ -1,0 +1,81 @@
+// Cuts input that comes in chunks into lines. The line at hand is the first n bytes of a buffer that the caller lends, which keeps as
+// much of a line as has room: one byte more than the longest line allowed is enough to tell a longer one.
+ghost use mathlib.Core.Path.{_≡_};
+ghost use Prim.Native.Nat.{_+_, min};
+ghost use lib.ListN.{length, drop};
+ghost use Rattle.octets.specs.Buffer.{laid};
+ghost use Rattle.line_cutter.specs.Line.{before, fitting, lineOf, taken};
+use octets::left;
+
+// What was taken of a chunk: how many bytes of the line at hand are kept, the place up to which the chunk is used, and whether the line has ended.
+pub struct Taken {
+    pub n: usize,
+    pub at: usize,
+    pub ended: bool,
+}
+
+// The place of the first byte of s, from at on, that is a or b, or where s ends.
+pub fn find(s: &[u8], at: usize, a: u8, b: u8) -> usize
+    ensures { λ r. ⌜ r ≡ at + length (before a b (drop at (now (s .entry)))) ⌝ }
+{
+    let mut i = at;
+    while i < s.len() {
+        let c = s[i];
+        if c == a {
+            return i;
+        }
+        if c == b {
+            return i;
+        }
+        i += 1;
+    }
+    i
+}
+
+fn least(a: usize, b: usize) -> usize
+    ensures { λ r. ⌜ r ≡ min a b ⌝ }
+{
+    if a < b { a } else { b }
+}
+
+// Stores s from a place of out on, as much of it as has room, and returns the place behind it.
+pub fn copy(s: &[u8], out: &mut [u8], at: usize) -> usize
+    ensures { λ r. ⌜ (r ≡ at + length (fitting (now (out .entry)) at (now (s .entry)))) × (now (out .exit) ≡ laid (now (out .entry)) at (fitting (now (out .entry)) at (now (s .entry)))) ⌝ }
+{
+    let end = least(s.len(), left(out, at));
+    let mut i = 0;
+    while i < end {
+        out[at + i] = s[i];
+        i += 1;
+    }
+    at + end
+}
+
+// Adds the bytes of a chunk, from a place on and up to a line feed, to the n bytes of the line at hand, as many as have room. The line
+// feed is used up, and is not kept.
+pub fn cut(chunk: &[u8], at: usize, line: &mut [u8], n: usize) -> Taken
+    ensures { λ r. ⌜ (r ≡ taken (drop at (now (chunk .entry))) at (now (line .entry)) n) × (now (line .exit) ≡ laid (now (line .entry)) n (fitting (now (line .entry)) n (lineOf (drop at (now (chunk .entry)))))) ⌝ }
+{
+    if at >= chunk.len() {
+        return Taken {
+            n,
+            at,
+            ended: false,
+        };
+    }
+    let end = find(chunk, at, 10, 10);
+    let kept = copy(&chunk[at..end], line, n);
+    if end < chunk.len() {
+        Taken {
+            n: kept,
+            at: end + 1,
+            ended: true,
+        }
+    } else {
+        Taken {
+            n: kept,
+            at: end,
+            ended: false,
+        }
+    }
+}
