@@ -1,18 +1,11 @@
--- An address in a frame: document 01, "PAN id (2) and address (2 or 8)", the PAN id left out where it is shared (IEEE 802.15.4-2011, 5.2.1.3
--- to 5.2.1.6). Own says that the PAN id is in the frame.
-use Prim.Native.Nat.{ℕ, _+_, _^_, _<_}
-use mathlib.Core.Bool.{Bool, true, false, cond}
-use mathlib.Core.List.{List, [], _++_}
-use Rattle.octets.specs.Little.{number, split}
-use Rattle.frame_control.specs.declared.AddressMode.{AddressMode}
-use Rattle.frame_control.specs.declared.AddressMode.the-variants as Mode
-use Rattle.identifiers.specs.declared.PanId.{PanId}
-use Rattle.identifiers.specs.PanId.{pan}
-use Rattle.identifiers.specs.ShortAddress.{short}
-use Rattle.identifiers.specs.ExtendedAddress.{extended}
-use Rattle.address.specs.Address.{modeOf}
+-- An address in a frame: document 01, "PAN id (2) and address (2 or 8)", the PAN id left out where it is shared (IEEE
+-- 802.15.4-2011, 5.2.1.3 to 5.2.1.6). Own says that the PAN id is in the frame.
+use Rattle.octets.specs.Words.{ℕ, _+_, _^_, _<_, Bool, true, false, cond, List, [], _++_}
+use Rattle.octets.specs.{Little.number, Little.split}
+use Rattle.frame_control.specs.{declared.AddressMode.AddressMode}
+use Rattle.identifiers.specs.{declared.PanId.PanId, PanId.pan, ShortAddress.short, ExtendedAddress.extended}
+use Rattle.address.specs.{declared.OptionalAddress.OptionalAddress, Address.modeOf}
 use Rattle.address.specs.declared.Address.the-variants.{Short, Extended}
-use Rattle.address.specs.declared.OptionalAddress.{OptionalAddress}
 use Rattle.address.specs.declared.OptionalAddress.the-variants.{Absent, Present}
 
 abbrev pub panLength : Bool → ℕ
@@ -20,9 +13,9 @@ panLength true = 2
 panLength false = 0
 
 abbrev pub modeLength : Bool → AddressMode → ℕ
-modeLength own Mode.None = 0
-modeLength own Mode.Short = panLength own + 2
-modeLength own Mode.Extended = panLength own + 8
+modeLength own AddressMode.None = 0
+modeLength own AddressMode.Short = panLength own + 2
+modeLength own AddressMode.Extended = panLength own + 8
 
 abbrev pub addressLength : Bool → OptionalAddress → ℕ
 addressLength own a = modeLength own (modeOf a)
@@ -34,9 +27,9 @@ panIn false shared s at = shared
 
 -- the address of a mode at a place
 unfoldable pub addressIn : Bool → PanId → AddressMode → List ℕ → ℕ → OptionalAddress
-addressIn own shared Mode.None s at = Absent
-addressIn own shared Mode.Short s at = Present (Short (panIn own shared s at) (short (number s (at + panLength own) 2)))
-addressIn own shared Mode.Extended s at = Present (Extended (panIn own shared s at) (extended (number s (at + panLength own) 8)))
+addressIn own shared AddressMode.None s at = Absent
+addressIn own shared AddressMode.Short s at = Present (Short (panIn own shared s at) (short (number s (at + panLength own) 2)))
+addressIn own shared AddressMode.Extended s at = Present (Extended (panIn own shared s at) (extended (number s (at + panLength own) 8)))
 
 abbrev pub panBytes : Bool → PanId → List ℕ
 panBytes true p = split 2 (p .0)

@@ -1,9 +1,7 @@
-// An address with its PAN id, which may be absent: its mode, its length and its bytes, with the PAN id in the frame (own) or shared.
-// `address_at` and `put_address` are building blocks of the header's reader and writer, which measure first: they ask for the bytes or the room.
-ghost use mathlib.Core.Path.{_≡_};
-ghost use Prim.Native.Nat.{_+_, _-_, _≤_};
-ghost use lib.ListN.{length};
-ghost use mathlib.Core.List.{_++_};
+// An address with its PAN id, which may be absent: its mode, its length and its bytes, with the PAN id in the frame
+// (own) or shared. `address_at` and `put_address` are building blocks of the header's reader and writer, which measure
+// first: they ask for the bytes or the room.
+ghost use Rattle.octets.specs.Words.{_+_, _-_, _≤_, _++_, _≡_, length};
 ghost use Rattle.octets.specs.Buffer.{laid};
 ghost use Rattle.octets.specs.Little.{split};
 ghost use Rattle.address.specs.Address.{panOf, modeOfAddress, modeOf, sharedPan, broadcastOf};
@@ -86,21 +84,24 @@ impl OptionalAddress {
 
     // How many bytes it takes in a frame, with its own PAN id or without.
     pub fn octets(self, own: bool) -> usize
-        ensures { λ r. ⌜ (r ≡ addressLength own self) × (r ≤ 10) ⌝ }
+        ensures { λ r. ⌜ r ≡ addressLength own self ⌝ }
+        ensures { λ r. ⌜ r ≤ 10 ⌝ }
     {
         mode_octets(self.mode(), own)
     }
 }
 
 fn pan_octets(own: bool) -> usize
-    ensures { λ r. ⌜ (r ≡ panLength own) × (r ≤ 2) ⌝ }
+    ensures { λ r. ⌜ r ≡ panLength own ⌝ }
+    ensures { λ r. ⌜ r ≤ 2 ⌝ }
 {
     if own { 2 } else { 0 }
 }
 
 // How many bytes an address of a mode takes, with its own PAN id or without.
 pub fn mode_octets(mode: AddressMode, own: bool) -> usize
-    ensures { λ r. ⌜ (r ≡ modeLength own mode) × (r ≤ 10) ⌝ }
+    ensures { λ r. ⌜ r ≡ modeLength own mode ⌝ }
+    ensures { λ r. ⌜ r ≤ 10 ⌝ }
 {
     match mode {
         AddressMode::None => 0,
@@ -145,10 +146,11 @@ pub fn address_at(
 
 fn put_pan(out: &mut [u8], at: usize, own: bool, pan_id: PanId) -> usize
     requires { ⌜ at + panLength own ≤ length (now out) ⌝ }
-    ensures { λ r. ⌜ (r ≡ at + panLength own) × (now (out .exit) ≡ laid (now (out .entry)) at (panBytes own «pan_id»)) ⌝ }
+    ensures { λ r. ⌜ r ≡ at + panLength own ⌝ }
+    ensures { λ r. ⌜ now (out .exit) ≡ laid (now (out .entry)) at (panBytes own «pan_id») ⌝ }
 {
     if own {
-        put(out, at, 2, pan_id.0 as u64)
+        put(pan_id.0 as u64, 2, out, at)
     } else {
         at
     }
@@ -156,17 +158,20 @@ fn put_pan(out: &mut [u8], at: usize, own: bool, pan_id: PanId) -> usize
 
 // A PAN id, where it is in the frame, and then an address of n bytes.
 fn put_pair(out: &mut [u8], at: usize, own: bool, pan_id: PanId, n: usize, v: u64) -> usize
-    requires { ⌜ (n ≤ 8) × (at + (panLength own + n) ≤ length (now out)) ⌝ }
-    ensures { λ r. ⌜ (r ≡ at + (panLength own + n)) × (now (out .exit) ≡ laid (now (out .entry)) at (panBytes own «pan_id» ++ split n v)) ⌝ }
+    requires { ⌜ n ≤ 8 ⌝ }
+    requires { ⌜ at + (panLength own + n) ≤ length (now out) ⌝ }
+    ensures { λ r. ⌜ r ≡ at + (panLength own + n) ⌝ }
+    ensures { λ r. ⌜ now (out .exit) ≡ laid (now (out .entry)) at (panBytes own «pan_id» ++ split n v) ⌝ }
 {
     let next = put_pan(out, at, own, pan_id);
-    put(out, next, n, v)
+    put(v, n, out, next)
 }
 
 // Stores an address at a place and returns the place behind it. Asks for its room.
 pub fn put_address(out: &mut [u8], at: usize, address: OptionalAddress, own: bool) -> usize
     requires { ⌜ at + addressLength own address ≤ length (now out) ⌝ }
-    ensures { λ r. ⌜ (r ≡ at + addressLength own address) × (now (out .exit) ≡ laid (now (out .entry)) at (addressBytes own address)) ⌝ }
+    ensures { λ r. ⌜ r ≡ at + addressLength own address ⌝ }
+    ensures { λ r. ⌜ now (out .exit) ≡ laid (now (out .entry)) at (addressBytes own address) ⌝ }
 {
     let OptionalAddress::Present(present) = address else {
         return at;

@@ -5,7 +5,7 @@ use mathlib.Core.Path.{_≡_}
 use Rattle.superframe.specs.Superframe.{superframeTooLarge}
 use Rattle.time_slots.specs.TimeSlots.{timeSlotsTooLarge}
 use Rattle.pending.specs.Pending.{pendingTooLarge}
-use Rattle.octets.proofs.Order.{neither}
+use Rattle.octets.proofs.Cases.{neither}
 use Rattle.beacon.specs.declared.Beacon.{Beacon}
 use Rattle.beacon.specs.Beacon.{beaconTooLarge}
 

@@ -1,8 +1,5 @@
 // A beacon's content: superframe specification, GTS information and pending addresses, side by side.
-ghost use mathlib.Core.Path.{_≡_};
-ghost use mathlib.Core.Bool.{false};
-ghost use Prim.Native.Nat.{_+_, _-_, _≤_};
-ghost use lib.ListN.{length};
+ghost use Rattle.octets.specs.Words.{_+_, _-_, _≤_, false, _≡_, length};
 ghost use Rattle.octets.specs.Buffer.{laid, after};
 ghost use Rattle.octets.specs.Value.{valueOutcome};
 ghost use Rattle.beacon.specs.Beacon.{beaconOf, emptyBeacon, beaconRefused, readBeacon, beaconBytes, beaconSize, beaconTooLarge, writeBeacon};
@@ -114,7 +111,8 @@ impl Beacon {
     // How many bytes it is written in. Asks that no number is too large.
     fn size(self) -> usize
         requires { ⌜ beaconTooLarge self ≡ false ⌝ }
-        ensures { λ r. ⌜ (r ≡ beaconSize self) × (r ≤ 96) ⌝ }
+        ensures { λ r. ⌜ r ≡ beaconSize self ⌝ }
+        ensures { λ r. ⌜ r ≤ 96 ⌝ }
     {
         let slots = self.guaranteed_time_slot_info;
         let pending = self.pending_address;
@@ -123,8 +121,10 @@ impl Beacon {
 
     // Stores it and returns the place behind it. Asks that no number is too large, and for that room.
     fn put(self, out: &mut [u8], at: usize) -> usize
-        requires { ⌜ (beaconTooLarge self ≡ false) × (beaconSize self ≤ length (now out) - at) ⌝ }
-        ensures { λ r. ⌜ (r ≡ at + beaconSize self) × (now (out .exit) ≡ laid (now (out .entry)) at (beaconBytes self)) ⌝ }
+        requires { ⌜ beaconTooLarge self ≡ false ⌝ }
+        requires { ⌜ beaconSize self ≤ length (now out) - at ⌝ }
+        ensures { λ r. ⌜ r ≡ at + beaconSize self ⌝ }
+        ensures { λ r. ⌜ now (out .exit) ≡ laid (now (out .entry)) at (beaconBytes self) ⌝ }
     {
         let superframe = self.superframe_spec;
         let slots = self.guaranteed_time_slot_info;
@@ -135,7 +135,8 @@ impl Beacon {
     }
 
     pub fn write(self, out: &mut [u8], at: usize) -> ValueWritten
-        ensures { λ r. ⌜ (r ≡ writeBeacon self (now (out .entry)) at) × (now (out .exit) ≡ after (valueOutcome r) (now (out .entry)) at (beaconBytes self)) ⌝ }
+        ensures { λ r. ⌜ r ≡ writeBeacon self (now (out .entry)) at ⌝ }
+        ensures { λ r. ⌜ now (out .exit) ≡ after (valueOutcome r) (now (out .entry)) at (beaconBytes self) ⌝ }
     {
         if self.too_large() {
             return ValueWritten::TooLarge;

@@ -14,7 +14,7 @@ use Rattle.octets.specs.Little.{Bytes}
 use Rattle.octets.specs.Order.{first}
 use Rattle.octets.specs.Part.{ends}
 use Rattle.octets.proofs.Little.{bytes-append}
-use Rattle.octets.proofs.Order.{cases, holds?}
+use Rattle.octets.proofs.Cases.{cases, holds?}
 use Rattle.superframe.specs.Superframe.{superframeIn, readSuperframe, superframeBytes}
 use Rattle.superframe.proofs.Superframe.{superframe-length, superframe-read}
 use Rattle.time_slots.specs.TimeSlots.{slotsLength, slotsDemand, slotCountIn, timeSlotsIn, timeSlotsLengthIn, readTimeSlots, timeSlotsBytes, timeSlotsSize}

@@ -14,7 +14,7 @@ use lib.ListN.{length, getD, take, drop, take-append-drop}
 use lib.Seq.{take-add, drop-drop, take-take, drop-cons}
 use Rattle.octets.specs.Little.{Bytes}
 use Rattle.octets.proofs.Little.{bytes-append}
-use Rattle.octets.proofs.Order.{cases, holds?}
+use Rattle.octets.proofs.Cases.{cases, holds?}
 use Rattle.seven_places.specs.Seven.{seven, reset, some}
 use Rattle.seven_places.proofs.Seven.{seven-same, rest-next, each-length}
 use Rattle.beacon_facts.proofs.Places.{past-length}

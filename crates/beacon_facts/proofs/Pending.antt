@@ -1,5 +1,5 @@
--- Demand 3 of pending addresses: the header put together again is the byte that was read, bits 3 and 7 clear, and the addresses stand as they
--- stood.
+-- Demand 3 of pending addresses: the header put together again is the byte that was read, bits 3 and 7 clear, and the addresses stand as
+-- they stood.
 -- Assumes nothing.
 use Prim.Native.Nat.{ℕ, _+_, _-_, _*_, _/_, _%_, _^_, _≤_, _<_}
 use native.Mathlib.Nat.{mod-eq-of-lt}

@@ -1,11 +1,7 @@
--- Demand 3 for any part that can be read and written: what is promised of a value that was read, and of a value that is written.
-use Prim.Native.Nat.{ℕ, _-_, _≤_}
-use mathlib.Core.Bool.{Bool, false}
-use mathlib.Core.List.{List, _++_}
-use mathlib.Core.Path.{_≡_}
-use lib.ListN.{length}
-use Rattle.octets.specs.Little.{Bytes}
-use Rattle.octets.specs.declared.ValueWritten.{ValueWritten}
+-- Demand 3 for any part that can be read and written: what is promised of a value that was read, and of a value that is
+-- written.
+use Rattle.octets.specs.Words.{ℕ, _-_, _≤_, Bool, false, List, _++_, _≡_, length}
+use Rattle.octets.specs.{declared.ValueWritten.ValueWritten, Little.Bytes}
 use Rattle.octets.specs.declared.ValueWritten.the-variants.{Written}
 
 -- the definitions of one part: values X, reader's answers R

@@ -1,7 +1,5 @@
 // Number and length of the beacon at a place of a slice, told by the counts in its two headers. No record is made.
-ghost use mathlib.Core.Path.{_≡_};
-ghost use Prim.Native.Nat.{_+_, _≤_, _<_};
-ghost use lib.ListN.{length};
+ghost use Rattle.octets.specs.Words.{_+_, _≤_, _<_, _≡_, length};
 ghost use Rattle.time_slots.specs.TimeSlots.{slotsLength, timeSlotsLengthIn};
 ghost use Rattle.pending.specs.Pending.{pendingLengthIn};
 ghost use Rattle.beacon.specs.Beacon.{readBeacon};
@@ -10,7 +8,8 @@ use octets::left;
 use octets::u8_at;
 
 fn wide(b: u8) -> usize
-    ensures { λ r. ⌜ (r ≡ b) × (r < 256) ⌝ }
+    ensures { λ r. ⌜ r ≡ b ⌝ }
+    ensures { λ r. ⌜ r < 256 ⌝ }
 {
     b as usize
 }
@@ -18,7 +17,8 @@ fn wide(b: u8) -> usize
 // Bytes of n slots behind their header.
 fn slots_length(n: usize) -> usize
     requires { ⌜ n < 8 ⌝ }
-    ensures { λ r. ⌜ (r ≡ slotsLength n) × (r ≤ 22) ⌝ }
+    ensures { λ r. ⌜ r ≡ slotsLength n ⌝ }
+    ensures { λ r. ⌜ r ≤ 22 ⌝ }
 {
     if n == 0 { 0 } else { 1 + 3 * n }
 }
@@ -26,7 +26,8 @@ fn slots_length(n: usize) -> usize
 // Bytes of the GTS information at a place. Asks that its header is there.
 pub fn time_slots_length(s: &[u8], at: usize) -> usize
     requires { ⌜ at + 1 ≤ length (now s) ⌝ }
-    ensures { λ r. ⌜ (r ≡ timeSlotsLengthIn (now (s .entry)) at) × (r ≤ 23) ⌝ }
+    ensures { λ r. ⌜ r ≡ timeSlotsLengthIn (now (s .entry)) at ⌝ }
+    ensures { λ r. ⌜ r ≤ 23 ⌝ }
 {
     1 + slots_length(wide(u8_at(s, at)) % 8)
 }
@@ -34,7 +35,8 @@ pub fn time_slots_length(s: &[u8], at: usize) -> usize
 // Bytes of the pending addresses at a place. Asks that their header is there.
 fn pending_length(s: &[u8], at: usize) -> usize
     requires { ⌜ at + 1 ≤ length (now s) ⌝ }
-    ensures { λ r. ⌜ (r ≡ pendingLengthIn (now (s .entry)) at) × (r ≤ 71) ⌝ }
+    ensures { λ r. ⌜ r ≡ pendingLengthIn (now (s .entry)) at ⌝ }
+    ensures { λ r. ⌜ r ≤ 71 ⌝ }
 {
     let header = wide(u8_at(s, at));
     1 + (2 * (header % 8) + 8 * (header / 16 % 8))

@@ -10,7 +10,7 @@ use lib.ListN.{length, take, drop, replicate, length-drop, length-replicate, dro
 use lib.Seq.{take-all, take-at}
 use Rattle.octets.specs.Buffer.{laid}
 use Rattle.octets.proofs.Buffer.{laid-all}
-use Rattle.octets.proofs.Order.{cases, holds?}
+use Rattle.octets.proofs.Cases.{cases, holds?}
 use Rattle.spell.specs.Said.{paged}
 
 -- from the n-th byte on, or from the end of what is shorter

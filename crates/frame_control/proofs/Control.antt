@@ -5,7 +5,7 @@ use native.Mathlib.Nat.{mod-eq-of-lt}
 use native.Mathlib.Omega.{arith}
 use mathlib.Core.Path.{_≡_, refl, sym, ap, _∙_}
 use Rattle.octets.specs.Bits.{bits, bitOf, clear}
-use Rattle.octets.proofs.Order.{cases}
+use Rattle.octets.proofs.Cases.{cases}
 use Rattle.octets.proofs.Bits.{bit-back, bit-again, bit-small, bits-join}
 use Rattle.frame_control.specs.declared.FrameControl.{FrameControl}
 use Rattle.frame_control.specs.declared.FrameControlRefusal.{FrameControlRefusal}

@@ -1,21 +1,14 @@
--- The frame control field, document 01, "Header layout" (IEEE 802.15.4-2011, 5.2.1.1): type bits 0-2, security 3, pending 4, acknowledgement
--- request 5, PAN compression 6, bit 7 not read, sequence suppression 8, elements present 9, destination mode 10-11, version 12-13, source
--- mode 14-15.
-use Prim.Native.Nat.{ℕ, _+_, _*_, _%_}
-use mathlib.Core.Bool.{false}
-use Rattle.octets.specs.declared.Outcome.{Outcome}
-use Rattle.octets.specs.Bits.{bits, bit, bitOf}
-use Rattle.octets.specs.Outcome.{accepted, refused}
-use Rattle.frame_control.specs.Types.{typeOf, typeBits, type?}
-use Rattle.frame_control.specs.Versions.{versionOf, versionBits, version?}
-use Rattle.frame_control.specs.Modes.{modeOf, modeBits, mode?}
-use Rattle.frame_control.specs.declared.FrameType.{FrameType}
-use Rattle.frame_control.specs.declared.FrameVersion.{FrameVersion}
-use Rattle.frame_control.specs.declared.AddressMode.{AddressMode}
-use Rattle.frame_control.specs.declared.FrameControl.{FrameControl}
-use Rattle.frame_control.specs.declared.FrameControlRefusal.{FrameControlRefusal}
-use Rattle.frame_control.specs.declared.FrameControlRefusal.the-variants as Refusal
-use Rattle.frame_control.specs.declared.FrameControlRead.{FrameControlRead}
+-- The frame control field, document 01, "Header layout" (IEEE 802.15.4-2011, 5.2.1.1): type bits 0-2, security 3,
+-- pending 4, acknowledgement request 5, PAN compression 6, bit 7 not read, sequence suppression 8, elements present 9,
+-- destination mode 10-11, version 12-13, source mode 14-15.
+use Rattle.octets.specs.Words.{ℕ, _+_, _*_, _%_, false}
+use Rattle.octets.specs.{declared.Outcome.Outcome, Bits.bits, Bits.bit, Bits.bitOf, Outcome.accepted, Outcome.refused}
+use Rattle.frame_control.specs.{declared.FrameType.FrameType, declared.FrameVersion.FrameVersion}
+use Rattle.frame_control.specs.{declared.AddressMode.AddressMode, declared.FrameControl.FrameControl}
+use Rattle.frame_control.specs.{declared.FrameControlRefusal.FrameControlRefusal}
+use Rattle.frame_control.specs.{declared.FrameControlRead.FrameControlRead, Types.typeOf, Types.typeBits}
+use Rattle.frame_control.specs.{Types.type?, Versions.versionOf, Versions.versionBits, Versions.version?}
+use Rattle.frame_control.specs.{Modes.modeOf, Modes.modeBits, Modes.mode?}
 use Rattle.frame_control.specs.declared.FrameControlRead.the-variants.{Read, Refused}
 
 -- the fields of the number w, whose listed values are given
@@ -37,10 +30,10 @@ controlOf w kind destination version source =
 -- what the number w says, or the first refusal: version, type, destination mode, source mode
 unfoldable pub controlIn : ℕ → FrameControlRead
 controlIn w =
-    version? (versionOf (bits w 12 2)) (Refused Refusal.Version) (λ version.
-    type? (typeOf (w % 8)) (Refused Refusal.FrameType) (λ kind.
-    mode? (modeOf (bits w 10 2)) (Refused Refusal.AddressMode) (λ destination.
-    mode? (modeOf (bits w 14 2)) (Refused Refusal.AddressMode) (λ source.
+    version? (versionOf (bits w 12 2)) (Refused FrameControlRefusal.Version) (λ version.
+    type? (typeOf (w % 8)) (Refused FrameControlRefusal.FrameType) (λ kind.
+    mode? (modeOf (bits w 10 2)) (Refused FrameControlRefusal.AddressMode) (λ destination.
+    mode? (modeOf (bits w 14 2)) (Refused FrameControlRefusal.AddressMode) (λ source.
     Read (controlOf w kind destination version source)))))
 
 -- the fields put together, bit 7 clear: the low byte, and 256 times the high one
@@ -67,9 +60,9 @@ quietControl c =
 
 -- the refusal numbers 2, 3 and 4
 abbrev pub controlRefusal : FrameControlRefusal → ℕ
-controlRefusal Refusal.Version = 2
-controlRefusal Refusal.FrameType = 3
-controlRefusal Refusal.AddressMode = 4
+controlRefusal FrameControlRefusal.Version = 2
+controlRefusal FrameControlRefusal.FrameType = 3
+controlRefusal FrameControlRefusal.AddressMode = 4
 
 -- the field is two bytes
 abbrev pub controlOutcome : FrameControlRead → Outcome

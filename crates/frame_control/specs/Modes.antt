@@ -1,12 +1,9 @@
--- Address modes and their bits: document 01, "Modes are 0 none, 2 short, 3 extended" (IEEE 802.15.4-2011, 5.2.1.1.6 and 5.2.1.1.8).
-use Prim.Native.Nat.{ℕ}
-use mathlib.Core.List.{List, [], _∷_}
-use Rattle.octets.specs.declared.Outcome.{Outcome}
-use Rattle.octets.specs.Bits.{find}
-use Rattle.octets.specs.Outcome.{accepted, refused}
-use Rattle.frame_control.specs.declared.AddressMode.{AddressMode}
+-- Address modes and their bits: document 01, "Modes are 0 none, 2 short, 3 extended" (IEEE 802.15.4-2011, 5.2.1.1.6 and
+-- 5.2.1.1.8).
+use Rattle.octets.specs.Words.{ℕ, List, [], _∷_}
+use Rattle.octets.specs.{declared.Outcome.Outcome, Bits.find, Outcome.accepted, Outcome.refused}
+use Rattle.frame_control.specs.{declared.AddressMode.AddressMode, declared.AddressModeRead.AddressModeRead}
 use Rattle.frame_control.specs.declared.AddressMode.the-variants.{None, Short, Extended}
-use Rattle.frame_control.specs.declared.AddressModeRead.{AddressModeRead}
 use Rattle.frame_control.specs.declared.AddressModeRead.the-variants.{Read, Refused}
 
 abbrev pub modes : List (ℕ × AddressMode)

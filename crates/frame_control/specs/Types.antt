@@ -1,12 +1,9 @@
--- Frame types and their bits: document 01, "Types 0, 1, 2, 3, 5, 6, 7 are known" (IEEE 802.15.4-2011, 5.2.1.1.1, as document 01 widens it).
-use Prim.Native.Nat.{ℕ}
-use mathlib.Core.List.{List, [], _∷_}
-use Rattle.octets.specs.declared.Outcome.{Outcome}
-use Rattle.octets.specs.Bits.{find}
-use Rattle.octets.specs.Outcome.{accepted, refused}
-use Rattle.frame_control.specs.declared.FrameType.{FrameType}
+-- Frame types and their bits: document 01, "Types 0, 1, 2, 3, 5, 6, 7 are known" (IEEE 802.15.4-2011, 5.2.1.1.1, as
+-- document 01 widens it).
+use Rattle.octets.specs.Words.{ℕ, List, [], _∷_}
+use Rattle.octets.specs.{declared.Outcome.Outcome, Bits.find, Outcome.accepted, Outcome.refused}
+use Rattle.frame_control.specs.{declared.FrameType.FrameType, declared.FrameTypeRead.FrameTypeRead}
 use Rattle.frame_control.specs.declared.FrameType.the-variants.{Beacon, Data, Acknowledgement, MacCommand, Multipurpose, FragOrFragAck, Extended}
-use Rattle.frame_control.specs.declared.FrameTypeRead.{FrameTypeRead}
 use Rattle.frame_control.specs.declared.FrameTypeRead.the-variants.{Read, Refused}
 
 abbrev pub types : List (ℕ × FrameType)

@@ -1,12 +1,9 @@
--- Frame versions and their bits: document 01, "Versions 0, 1, 2 are known" (IEEE 802.15.4-2011, 5.2.1.1.7, as document 01 widens it).
-use Prim.Native.Nat.{ℕ}
-use mathlib.Core.List.{List, [], _∷_}
-use Rattle.octets.specs.declared.Outcome.{Outcome}
-use Rattle.octets.specs.Bits.{find}
-use Rattle.octets.specs.Outcome.{accepted, refused}
-use Rattle.frame_control.specs.declared.FrameVersion.{FrameVersion}
+-- Frame versions and their bits: document 01, "Versions 0, 1, 2 are known" (IEEE 802.15.4-2011, 5.2.1.1.7, as document
+-- 01 widens it).
+use Rattle.octets.specs.Words.{ℕ, List, [], _∷_}
+use Rattle.octets.specs.{declared.Outcome.Outcome, Bits.find, Outcome.accepted, Outcome.refused}
+use Rattle.frame_control.specs.{declared.FrameVersion.FrameVersion, declared.FrameVersionRead.FrameVersionRead}
 use Rattle.frame_control.specs.declared.FrameVersion.the-variants.{Ieee802154_2003, Ieee802154_2006, Ieee802154}
-use Rattle.frame_control.specs.declared.FrameVersionRead.{FrameVersionRead}
 use Rattle.frame_control.specs.declared.FrameVersionRead.the-variants.{Read, Refused}
 
 abbrev pub versions : List (ℕ × FrameVersion)

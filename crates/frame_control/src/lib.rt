@@ -1,6 +1,6 @@
-// The frame control field: frame type, version and address modes by their bits, and the two bytes taken apart and put together.
-ghost use mathlib.Core.Path.{_≡_};
-ghost use Prim.Native.Nat.{_≤_};
+// The frame control field: frame type, version and address modes by their bits, and the two bytes taken apart and put
+// together.
+ghost use Rattle.octets.specs.Words.{_≤_, _≡_};
 ghost use Rattle.frame_control.specs.Types.{typeOf, typeBits, typeOutcome};
 ghost use Rattle.frame_control.specs.Versions.{versionOf, versionBits, versionOutcome};
 ghost use Rattle.frame_control.specs.Modes.{modeOf, modeBits, modeOutcome};
@@ -59,7 +59,8 @@ impl FrameType {
     }
 
     pub fn to_bits(self) -> u8
-        ensures { λ r. ⌜ (r ≡ typeBits self) × (r ≤ 7) ⌝ }
+        ensures { λ r. ⌜ r ≡ typeBits self ⌝ }
+        ensures { λ r. ⌜ r ≤ 7 ⌝ }
     {
         match self {
             FrameType::Beacon => 0,
@@ -115,7 +116,8 @@ impl FrameVersion {
     }
 
     pub fn to_bits(self) -> u8
-        ensures { λ r. ⌜ (r ≡ versionBits self) × (r ≤ 2) ⌝ }
+        ensures { λ r. ⌜ r ≡ versionBits self ⌝ }
+        ensures { λ r. ⌜ r ≤ 2 ⌝ }
     {
         match self {
             FrameVersion::Ieee802154_2003 => 0,
@@ -167,7 +169,8 @@ impl AddressMode {
     }
 
     pub fn to_bits(self) -> u8
-        ensures { λ r. ⌜ (r ≡ modeBits self) × (r ≤ 3) ⌝ }
+        ensures { λ r. ⌜ r ≡ modeBits self ⌝ }
+        ensures { λ r. ⌜ r ≤ 3 ⌝ }
     {
         match self {
             AddressMode::None => 0,

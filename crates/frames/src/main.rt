@@ -1,8 +1,7 @@
-// The line program: for each line of standard input, a label and a frame in hex, its label with the header's refusal number and length. The
-// work is done by `lines`; here are the reading and the writing, in chunks of up to 65,536 bytes.
-ghost use mathlib.Core.Path.{_≡_};
-ghost use Prim.Native.Nat.{_≤_};
-ghost use lib.ListN.{length, take};
+// The line program: for each line of standard input, a label and a frame in hex, its label with the header's refusal
+// number and length. The work is done by `lines`; here are the reading and the writing, in chunks of up to 65,536
+// bytes.
+ghost use Rattle.octets.specs.Words.{_≤_, _≡_, length, take};
 ghost use Rattle.lines.specs.Output.{fedTo};
 use libc::STDIN_FILENO;
 use libc::STDOUT_FILENO;
@@ -14,7 +13,8 @@ const ENDED: u8 = 1;
 
 const FAILED: u8 = 2;
 
-// A turn: n bytes of the line at hand are kept, got bytes were read, used bytes were to be written, and what comes next.
+// A turn: n bytes of the line at hand are kept, got bytes were read, used bytes were to be written, and what comes
+// next.
 struct Turn {
     n: usize,
     got: usize,
@@ -40,10 +40,13 @@ fn after_write(good: bool) -> u8 {
     FAILED
 }
 
-// Reads once, and writes the answers to the lines that end in what was read. Whatever that is, the first got bytes of chunk, it is what is
-// fed, and what is fed leads to is what is to be written.
+// Reads once, and writes the answers to the lines that end in what was read. Whatever that is, the first got bytes of
+// chunk, it is what is fed, and what is fed leads to is what is to be written.
 fn take_turn(chunk: &mut [u8], line: &mut [u8], n: usize, out: &mut [u8]) -> Turn
-    requires { ⌜ (n ≤ 1025) × (length (now line) ≡ 1025) × (length (now chunk) ≡ 65536) × (length (now out) ≡ 328705) ⌝ }
+    requires { ⌜ n ≤ 1025 ⌝ }
+    requires { ⌜ length (now line) ≡ 1025 ⌝ }
+    requires { ⌜ length (now chunk) ≡ 65536 ⌝ }
+    requires { ⌜ length (now out) ≡ 328705 ⌝ }
     ensures { λ r. ⌜ record { out = now (out .exit); used = r .used; kept = take (r .n) (now (line .exit)) } ≡ fedTo (take n (now (line .entry))) (take (r .got) (now (chunk .exit))) (now (out .entry)) 0 ⌝ }
     ensures { λ r. ⌜ r .n ≤ 1025 ⌝ }
 {
@@ -79,7 +82,9 @@ fn take_turn(chunk: &mut [u8], line: &mut [u8], n: usize, out: &mut [u8]) -> Tur
 
 // Writes the answer to a last line that was not ended.
 fn end(line: &[u8], n: usize, out: &mut [u8])
-    requires { ⌜ (n ≤ 1025) × (length (now line) ≡ 1025) × (length (now out) ≡ 328705) ⌝ }
+    requires { ⌜ n ≤ 1025 ⌝ }
+    requires { ⌜ length (now line) ≡ 1025 ⌝ }
+    requires { ⌜ length (now out) ≡ 328705 ⌝ }
 {
     let used = lines::finish(line, n, out);
     if !io::write_all(STDOUT_FILENO, &out[..used]) {
@@ -87,8 +92,8 @@ fn end(line: &[u8], n: usize, out: &mut [u8])
     }
 }
 
-// A proved loop has to end, and nothing says that the input does, so the loop counts its turns down from a number that no
-// run uses up.
+// A proved loop has to end, and nothing says that the input does, so the loop counts its turns down from a number that
+// no run uses up.
 fn main() {
     let mut chunk = [0u8; 65536];
     let mut line = [0u8; 1025];

@@ -14,7 +14,7 @@ use Rattle.octets.specs.Bits.{bit, clear, clearAt}
 use Rattle.octets.specs.Little.{number, Bytes}
 use Rattle.octets.specs.Outcome.{accepted, refused}
 use Rattle.octets.specs.Part.{ends}
-use Rattle.octets.proofs.Order.{cases, holds?}
+use Rattle.octets.proofs.Cases.{cases, holds?}
 use Rattle.header.specs.declared.Header.{Header}
 use Rattle.header.specs.declared.HeaderRefusal.{HeaderRefusal}
 use Rattle.header.specs.declared.HeaderRefusal.the-variants as Refusal

@@ -1,5 +1,5 @@
--- Reading a record and writing it again answers and leaves what rewriting promises of the two slices, by demand 3 of a header and of a beacon. The
--- entries promise the same and make no record.
+-- Reading a record and writing it again answers and leaves what rewriting promises of the two slices, by demand 3 of a header and of a
+-- beacon. The entries promise the same and make no record.
 -- Assumes nothing.
 use Prim.Native.Nat.{ℕ, _-_, _≤_}
 use native.Mathlib.Omega.{arith}
@@ -14,7 +14,8 @@ use Rattle.octets.specs.Little.{Bytes}
 use Rattle.octets.specs.Outcome.{accepted}
 use Rattle.octets.specs.Part.{ends}
 use Rattle.octets.proofs.Buffer.{laid-all}
-use Rattle.octets.proofs.Order.{cases, holds?, none-holds}
+use Rattle.octets.proofs.Cases.{cases, holds?}
+use Rattle.octets.proofs.Order.{none-holds}
 use Rattle.security.specs.declared.OptionalCounter.{OptionalCounter}
 use Rattle.security.specs.Optional.{counterOf, counterRead}
 use Rattle.header.specs.declared.Header.{Header}

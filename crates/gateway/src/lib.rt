@@ -1,7 +1,6 @@
-// The gateway's four entries for C. Each returns one number: the length, or 1000 plus the refusal number. They measure, and copy what is
-// rewritten with the listed bits cleared; no record is made.
-ghost use mathlib.Core.Path.{_≡_};
-ghost use lib.ListN.{length};
+// The gateway's four entries for C. Each returns one number: the length, or 1000 plus the refusal number. They measure,
+// and copy what is rewritten with the listed bits cleared; no record is made.
+ghost use Rattle.octets.specs.Words.{_≡_, length};
 ghost use Rattle.octets.specs.Outcome.{accepted};
 ghost use Rattle.beacon.specs.Beacon.{readBeacon};
 ghost use Rattle.header.specs.Read.{readHeader, readOutcome};
@@ -77,10 +76,12 @@ fn put_header(frame: &[u8], out: &mut [u8], n: usize)
     clear_header(out, u16_at(frame, 0) as usize);
 }
 
-// Rewrites a header, as reading it and writing it again with the counter that was read does; refused, out keeps every byte.
+// Rewrites a header, as reading it and writing it again with the counter that was read does; refused, out keeps every
+// byte.
 #[no_mangle]
 pub extern "C" fn knobtangle_rewrite_header(frame: &[u8], out: &mut [u8]) -> usize
-    ensures { λ r. ⌜ (r ≡ codeOf (rewriteHeader (now (frame .entry)) (length (now (out .entry))))) × (now (out .exit) ≡ headerInto (now (frame .entry)) (now (out .entry))) ⌝ }
+    ensures { λ r. ⌜ r ≡ codeOf (rewriteHeader (now (frame .entry)) (length (now (out .entry)))) ⌝ }
+    ensures { λ r. ⌜ now (out .exit) ≡ headerInto (now (frame .entry)) (now (out .entry)) ⌝ }
 {
     let outcome = rewriting(frame, out.len());
     if outcome.number != 0 {
@@ -103,7 +104,8 @@ fn put_beacon(content: &[u8], out: &mut [u8], n: usize)
 // Rewrites a beacon, as reading it and writing it again does; refused, out keeps every byte.
 #[no_mangle]
 pub extern "C" fn knobtangle_rewrite_beacon(content: &[u8], out: &mut [u8]) -> usize
-    ensures { λ r. ⌜ (r ≡ codeOf (rewriteBeacon (now (content .entry)) (now (out .entry)))) × (now (out .exit) ≡ beaconInto (now (content .entry)) (now (out .entry))) ⌝ }
+    ensures { λ r. ⌜ r ≡ codeOf (rewriteBeacon (now (content .entry)) (now (out .entry))) ⌝ }
+    ensures { λ r. ⌜ now (out .exit) ≡ beaconInto (now (content .entry)) (now (out .entry)) ⌝ }
 {
     let outcome = measure_beacon(content, 0);
     if outcome.number != 0 {

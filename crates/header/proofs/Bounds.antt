@@ -7,7 +7,7 @@ use mathlib.Core.List.{List}
 use mathlib.Core.Logic.{_⊎_, inl, inr}
 use mathlib.Core.Path.{_≡_, refl, sym, ap, _∙_}
 use lib.ListN.{length}
-use Rattle.octets.proofs.Order.{cases}
+use Rattle.octets.proofs.Cases.{cases}
 use Rattle.frame_control.specs.declared.AddressMode.{AddressMode}
 use Rattle.frame_control.specs.declared.AddressMode.the-variants as Mode
 use Rattle.security_control.specs.declared.KeyIdentifierMode.{KeyIdentifierMode}

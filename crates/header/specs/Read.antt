@@ -1,43 +1,27 @@
--- Reading a header, document 01: 1 below three bytes; 2; 3; 4 destination; 4 source; 1 destination; 5; 1 source; 1 security part. The frame
--- control gives 2, 3 and 4; then come the sequence byte, always, the addresses, and the security header.
-use Prim.Native.Nat.{ℕ, _+_}
-use mathlib.Core.Bool.{Bool, true, false, cond, not}
-use mathlib.Core.List.{List, [], _∷_}
-use lib.Dec.{ltb}
-use lib.ListN.{length}
-use Rattle.octets.specs.declared.Outcome.{Outcome}
-use Rattle.octets.specs.Little.{number}
-use Rattle.octets.specs.Order.{first}
-use Rattle.octets.specs.Outcome.{accepted, refused}
-use Rattle.frame_control.specs.declared.AddressMode.{AddressMode}
-use Rattle.frame_control.specs.declared.AddressMode.the-variants as Mode
-use Rattle.frame_control.specs.declared.FrameControl.{FrameControl}
-use Rattle.frame_control.specs.declared.FrameControlRefusal.{FrameControlRefusal}
-use Rattle.frame_control.specs.declared.FrameControlRefusal.the-variants as Control
-use Rattle.frame_control.specs.Control.{controlIn, control?}
-use Rattle.identifiers.specs.PanId.{pan}
-use Rattle.address.specs.declared.OptionalAddress.{OptionalAddress}
-use Rattle.address.specs.Address.{sharedPan}
-use Rattle.address.specs.Layout.{modeLength, addressIn}
-use Rattle.security.specs.declared.OptionalSecurityHeader.{OptionalSecurityHeader}
+-- Reading a header, document 01: 1 below three bytes; 2; 3; 4 destination; 4 source; 1 destination; 5; 1 source; 1
+-- security part. The frame control gives 2, 3 and 4; then come the sequence byte, always, the addresses, and the
+-- security header.
+use Rattle.octets.specs.Words.{ℕ, _+_, Bool, true, false, cond, not, List, [], _∷_, ltb, length}
+use Rattle.octets.specs.{declared.Outcome.Outcome, Little.number, Order.first, Outcome.accepted, Outcome.refused}
+use Rattle.frame_control.specs.{declared.AddressMode.AddressMode, declared.FrameControl.FrameControl}
+use Rattle.frame_control.specs.{declared.FrameControlRefusal.FrameControlRefusal, Control.controlIn, Control.control?}
+use Rattle.identifiers.specs.{PanId.pan}
+use Rattle.address.specs.{declared.OptionalAddress.OptionalAddress, Address.sharedPan, Layout.modeLength}
+use Rattle.address.specs.{Layout.addressIn}
+use Rattle.security.specs.{declared.OptionalSecurityHeader.OptionalSecurityHeader}
+use Rattle.security.specs.{declared.SecurityHeaderRead.SecurityHeaderRead, Answer.readSecurity}
 use Rattle.security.specs.declared.OptionalSecurityHeader.the-variants.{Absent, Present}
-use Rattle.security.specs.declared.SecurityHeaderRead.{SecurityHeaderRead}
-use Rattle.security.specs.declared.SecurityHeaderRead.the-variants as Security
-use Rattle.security.specs.Answer.{readSecurity}
-use Rattle.header.specs.Record.{headerOf}
-use Rattle.header.specs.declared.HeaderRefusal.{HeaderRefusal}
+use Rattle.header.specs.{declared.HeaderRefusal.HeaderRefusal, declared.HeaderRead.HeaderRead}
+use Rattle.header.specs.{declared.SecurityPart.SecurityPart, Record.headerOf}
 use Rattle.header.specs.declared.HeaderRefusal.the-variants.{Ended, Version, FrameType, AddressMode as Modes, Compression}
-use Rattle.header.specs.declared.HeaderRead.{HeaderRead}
 use Rattle.header.specs.declared.HeaderRead.the-variants.{Read, Refused}
-use Rattle.header.specs.declared.SecurityPart.{SecurityPart}
-use Rattle.header.specs.declared.SecurityPart.the-variants as Part
 
 -- compression is set, and there is no destination whose PAN id a source could share
 abbrev pub unshared : Bool → AddressMode → Bool
 unshared false mode = false
-unshared true Mode.None = true
-unshared true Mode.Short = false
-unshared true Mode.Extended = false
+unshared true AddressMode.None = true
+unshared true AddressMode.Short = false
+unshared true AddressMode.Extended = false
 
 -- where the addresses end, by the frame control
 abbrev pub destinationEnd : FrameControl → ℕ
@@ -55,15 +39,15 @@ sourceIn c s = addressIn (not (c .«pan_id_compress»)) (sharedPan (destinationI
 
 -- the security header at a place, where the security bit says that there is one, and the place behind it
 abbrev pub behindPlace : SecurityHeaderRead → ℕ → SecurityPart
-behindPlace Security.Ended at = Part.Ended
-behindPlace (Security.Read k n) at = Part.Read (Present k) (at + n)
+behindPlace SecurityHeaderRead.Ended at = SecurityPart.Ended
+behindPlace (SecurityHeaderRead.Read k n) at = SecurityPart.Read (Present k) (at + n)
 
 unfoldable pub securityPart : List ℕ → ℕ → Bool → SecurityPart
-securityPart s at on = cond on (behindPlace (readSecurity s at) at) (Part.Read Absent at)
+securityPart s at on = cond on (behindPlace (readSecurity s at) at) (SecurityPart.Read Absent at)
 
 abbrev pub part? : {A : Type 0} → SecurityPart → A → (OptionalSecurityHeader → ℕ → A) → A
-part? Part.Ended other then = other
-part? (Part.Read k end) other then = then k end
+part? SecurityPart.Ended other then = other
+part? (SecurityPart.Read k end) other then = then k end
 
 -- the header, once the addresses are there
 unfoldable pub readRest : List ℕ → FrameControl → HeaderRead
@@ -82,9 +66,9 @@ readFields s c =
     (readRest s c)
 
 abbrev pub refusalOf : FrameControlRefusal → HeaderRefusal
-refusalOf Control.Version = Version
-refusalOf Control.FrameType = FrameType
-refusalOf Control.AddressMode = Modes
+refusalOf FrameControlRefusal.Version = Version
+refusalOf FrameControlRefusal.FrameType = FrameType
+refusalOf FrameControlRefusal.AddressMode = Modes
 
 unfoldable pub readHeader : List ℕ → HeaderRead
 readHeader s =

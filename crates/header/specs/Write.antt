@@ -1,31 +1,20 @@
--- Writing a header, document 01: 8; 1 below three bytes of room; 6; 1 addresses; 7; 1 security part. The writer clears frame-control bits 7, 8
--- and 9, takes the key mode from the key identifier and the counter from the caller.
-use Prim.Native.Nat.{ℕ}
-use mathlib.Core.Bool.{Bool, true, false, cond, not}
-use mathlib.Core.List.{List, [], _∷_, _++_}
-use lib.Dec.{ltb}
-use Rattle.octets.specs.declared.Outcome.{Outcome}
-use Rattle.octets.specs.Little.{split}
-use Rattle.octets.specs.Order.{first}
-use Rattle.octets.specs.Outcome.{accepted, refused}
-use Rattle.frame_control.specs.declared.FrameControl.{FrameControl}
-use Rattle.frame_control.specs.Control.{controlBits}
-use Rattle.address.specs.declared.OptionalAddress.{OptionalAddress}
-use Rattle.address.specs.declared.OptionalAddress.the-variants as Address
-use Rattle.address.specs.Address.{modeOf}
-use Rattle.address.specs.Layout.{addressBytes}
-use Rattle.security.specs.declared.OptionalCounter.{OptionalCounter}
-use Rattle.security.specs.Optional.{levelTooLarge, optionalBytes, missing}
-use Rattle.header.specs.Record.{secured, sourceOwn, addressesEnd, headerLength}
-use Rattle.header.specs.declared.Header.{Header}
-use Rattle.header.specs.declared.HeaderWritten.{HeaderWritten}
+-- Writing a header, document 01: 8; 1 below three bytes of room; 6; 1 addresses; 7; 1 security part. The writer clears
+-- frame-control bits 7, 8 and 9, takes the key mode from the key identifier and the counter from the caller.
+use Rattle.octets.specs.Words.{ℕ, Bool, true, false, cond, not, List, [], _∷_, _++_, ltb}
+use Rattle.octets.specs.{declared.Outcome.Outcome, Little.split, Order.first, Outcome.accepted, Outcome.refused}
+use Rattle.frame_control.specs.{declared.FrameControl.FrameControl, Control.controlBits}
+use Rattle.address.specs.{declared.OptionalAddress.OptionalAddress, Address.modeOf, Layout.addressBytes}
+use Rattle.security.specs.{declared.OptionalCounter.OptionalCounter, Optional.levelTooLarge, Optional.optionalBytes}
+use Rattle.security.specs.{Optional.missing}
+use Rattle.header.specs.{declared.Header.Header, declared.HeaderWritten.HeaderWritten, Record.secured}
+use Rattle.header.specs.{Record.sourceOwn, Record.addressesEnd, Record.headerLength}
 use Rattle.header.specs.declared.HeaderWritten.the-variants.{Written, TooLarge, Full, Compression, MissingCounter}
 
 -- refusal 6: compression set, either address missing
 abbrev pub bothPresent : OptionalAddress → OptionalAddress → Bool
-bothPresent Address.Absent source = false
-bothPresent (Address.Present d) Address.Absent = false
-bothPresent (Address.Present d) (Address.Present s) = true
+bothPresent OptionalAddress.Absent source = false
+bothPresent (OptionalAddress.Present d) OptionalAddress.Absent = false
+bothPresent (OptionalAddress.Present d) (OptionalAddress.Present s) = true
 
 abbrev pub lacksAddress : Header → Bool
 lacksAddress h = cond (h .«pan_id_compress») (not (bothPresent (h .destination) (h .source))) false

@@ -1,7 +1,5 @@
 // The header of a frame: read from any slice, written into any slice, its lengths.
-ghost use mathlib.Core.Path.{_≡_};
-ghost use Prim.Native.Nat.{_+_, _≤_};
-ghost use lib.ListN.{length};
+ghost use Rattle.octets.specs.Words.{_+_, _≤_, _≡_, length};
 ghost use Rattle.octets.specs.Buffer.{laid, after};
 ghost use Rattle.security.specs.Optional.{counterOf};
 ghost use Rattle.header.specs.Record.{secured, addressesEnd, headerLength, octetSize};
@@ -87,7 +85,8 @@ impl HeaderRefusal {
     }
 }
 
-// What writing answers: the length, or the first refusal of 8, 1 (below three bytes), 6, 1 (addresses), 7, 1 (security part).
+// What writing answers: the length, or the first refusal of 8, 1 (below three bytes), 6, 1 (addresses), 7, 1 (security
+// part).
 pub enum HeaderWritten {
     Written(usize),
     TooLarge,
@@ -172,7 +171,9 @@ fn refusal_of(refusal: FrameControlRefusal) -> HeaderRefusal
 
 // What stands behind the addresses, which are there, and the header made of it all.
 fn read_rest(s: &[u8], c: FrameControl, destination_end: usize, source_end: usize) -> HeaderRead
-    requires { ⌜ («destination_end» ≡ destinationEnd c) × ((«source_end» ≡ sourceEnd c) × (sourceEnd c ≤ length (now s))) ⌝ }
+    requires { ⌜ «destination_end» ≡ destinationEnd c ⌝ }
+    requires { ⌜ «source_end» ≡ sourceEnd c ⌝ }
+    requires { ⌜ sourceEnd c ≤ length (now s) ⌝ }
     ensures { λ r. ⌜ r ≡ readRest (now (s .entry)) c ⌝ }
 {
     let SecurityPart::Read(auxiliary_security_header, end) = security_part(
@@ -265,7 +266,8 @@ impl Header {
         security.is_present()
     }
 
-    // The Rust crate's number, blind to compression and security. The payload begins behind `occupied` bytes, not behind these.
+    // The Rust crate's number, blind to compression and security. The payload begins behind `occupied` bytes, not
+    // behind these.
     pub fn get_octet_size(self) -> usize
         ensures { λ r. ⌜ r ≡ octetSize self ⌝ }
     {
@@ -275,7 +277,8 @@ impl Header {
     }
 
     fn addresses_end(self) -> usize
-        ensures { λ r. ⌜ (r ≡ addressesEnd self) × (r ≤ 23) ⌝ }
+        ensures { λ r. ⌜ r ≡ addressesEnd self ⌝ }
+        ensures { λ r. ⌜ r ≤ 23 ⌝ }
     {
         let destination = self.destination;
         let source = self.source;
@@ -284,7 +287,8 @@ impl Header {
 
     // How many bytes the header really occupies in a frame.
     pub fn occupied(self) -> usize
-        ensures { λ r. ⌜ (r ≡ headerLength self) × (r ≤ 37) ⌝ }
+        ensures { λ r. ⌜ r ≡ headerLength self ⌝ }
+        ensures { λ r. ⌜ r ≤ 37 ⌝ }
     {
         let security = self.auxiliary_security_header;
         self.addresses_end() + security.octets()
@@ -369,14 +373,15 @@ impl Header {
         ensures { λ r. ⌜ now (out .exit) ≡ laid (now (out .entry)) 0 (fixedBytes self) ⌝ }
     {
         let control = self.written_control();
-        put(out, 0, 2, control.to_bits() as u64);
-        put(out, 2, 1, self.seq as u64);
+        put(control.to_bits() as u64, 2, out, 0);
+        put(self.seq as u64, 1, out, 2);
     }
 
     // Stores the addresses behind the sequence number and returns the place behind them. Asks for their room.
     fn put_addresses(self, out: &mut [u8]) -> usize
         requires { ⌜ addressesEnd self ≤ length (now out) ⌝ }
-        ensures { λ r. ⌜ (r ≡ addressesEnd self) × (now (out .exit) ≡ laid (now (out .entry)) 3 (addressesBytes self)) ⌝ }
+        ensures { λ r. ⌜ r ≡ addressesEnd self ⌝ }
+        ensures { λ r. ⌜ now (out .exit) ≡ laid (now (out .entry)) 3 (addressesBytes self) ⌝ }
     {
         let destination = self.destination;
         let source = self.source;
@@ -395,9 +400,11 @@ impl Header {
         security.put(out, at, counter);
     }
 
-    // Writes the header at the beginning of a slice, with the frame counter that the caller hands over where it is secured.
+    // Writes the header at the beginning of a slice, with the frame counter that the caller hands over where it is
+    // secured.
     pub fn write(self, out: &mut [u8], counter: OptionalCounter) -> HeaderWritten
-        ensures { λ r. ⌜ (r ≡ writeHeader self counter (length (now (out .entry)))) × (now (out .exit) ≡ after (writtenOutcome r) (now (out .entry)) 0 (headerBytes self (counterOf counter))) ⌝ }
+        ensures { λ r. ⌜ r ≡ writeHeader self counter (length (now (out .entry))) ⌝ }
+        ensures { λ r. ⌜ now (out .exit) ≡ after (writtenOutcome r) (now (out .entry)) 0 (headerBytes self (counterOf counter)) ⌝ }
     {
         match self.write_answer(counter, out.len()) {
             HeaderWritten::Written(n) => {

@@ -12,7 +12,7 @@ use Rattle.octets.specs.Bits.{clear, clearAt}
 use Rattle.octets.specs.Little.{split, number, Bytes}
 use Rattle.octets.proofs.Bits.{clear-behind}
 use Rattle.octets.proofs.Little.{bytes-at, number-one, number-join, number-small}
-use Rattle.octets.proofs.Order.{cases}
+use Rattle.octets.proofs.Cases.{cases}
 use Rattle.frame_control.specs.declared.FrameControl.{FrameControl}
 use Rattle.frame_control.specs.Control.{controlBits, quietControl}
 use Rattle.frame_control.proofs.Control.{control-quiet}

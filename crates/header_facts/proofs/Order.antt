@@ -1,5 +1,5 @@
--- Each refusal of reading and of writing is given exactly when it is the first in document 01's order: what the definitions answer is what the
--- plain list of tests gives.
+-- Each refusal of reading and of writing is given exactly when it is the first in document 01's order: what the definitions answer is what
+-- the plain list of tests gives.
 -- Assumes nothing.
 use Prim.Native.Nat.{ℕ, zero, suc, _+_, _-_, _%_, _≤_, _<_}
 use native.Mathlib.Omega.{arith}
@@ -16,7 +16,8 @@ use Rattle.octets.specs.Little.{number}
 use Rattle.octets.specs.Order.{first}
 use Rattle.octets.specs.Outcome.{accepted}
 use Rattle.octets.specs.Part.{ends}
-use Rattle.octets.proofs.Order.{cases, holds?, first-map}
+use Rattle.octets.proofs.Cases.{cases, holds?}
+use Rattle.octets.proofs.Order.{first-map}
 use Rattle.frame_control.specs.declared.AddressMode.{AddressMode}
 use Rattle.frame_control.specs.declared.AddressMode.the-variants as Mode
 use Rattle.frame_control.specs.declared.AddressModeRead.the-variants as ModeRead

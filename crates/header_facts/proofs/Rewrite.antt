@@ -12,7 +12,7 @@ use Rattle.octets.specs.declared.Outcome.{Outcome}
 use Rattle.octets.specs.Bits.{bit, clearAt}
 use Rattle.octets.specs.Little.{number, Bytes}
 use Rattle.octets.specs.Outcome.{accepted, refused}
-use Rattle.octets.proofs.Order.{cases, holds?}
+use Rattle.octets.proofs.Cases.{cases, holds?}
 use Rattle.frame_control.specs.declared.FrameControl.{FrameControl}
 use Rattle.address.specs.declared.OptionalAddress.{OptionalAddress}
 use Rattle.address.specs.declared.OptionalAddress.the-variants as Address

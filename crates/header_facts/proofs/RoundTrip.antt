@@ -11,7 +11,7 @@ use lib.ListN.{length, length-append}
 use Rattle.octets.specs.Little.{Bytes}
 use Rattle.octets.proofs.Buffer.{laid-all}
 use Rattle.octets.proofs.Little.{number-more, number-small}
-use Rattle.octets.proofs.Order.{cases}
+use Rattle.octets.proofs.Cases.{cases}
 use Rattle.frame_control.specs.declared.FrameControl.{FrameControl}
 use Rattle.frame_control.specs.Control.{controlIn}
 use Rattle.identifiers.specs.PanId.{pan}

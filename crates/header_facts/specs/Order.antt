@@ -1,19 +1,11 @@
--- Document 01's order of refusals by itself, as plain tests on the bytes and the record, each with its number: the first that holds is given,
--- and 0 where none does.
-use Prim.Native.Nat.{ℕ, _+_, _%_}
-use mathlib.Core.Bool.{Bool, false, cond}
-use mathlib.Core.List.{List, [], _∷_}
-use lib.Dec.{eqb, ltb}
-use lib.ListN.{length}
-use Rattle.octets.specs.declared.Outcome.{Outcome}
-use Rattle.octets.specs.Bits.{bits, bit, find}
-use Rattle.octets.specs.Little.{number}
-use Rattle.octets.specs.Outcome.{accepted, refused}
-use Rattle.security.specs.declared.OptionalCounter.{OptionalCounter}
-use Rattle.security.specs.Optional.{levelTooLarge}
-use Rattle.header.specs.declared.Header.{Header}
-use Rattle.header.specs.Record.{addressesEnd, headerLength}
-use Rattle.header.specs.Write.{lacksAddress, lacksCounter}
+-- Document 01's order of refusals by itself, as plain tests on the bytes and the record, each with its number: the
+-- first that holds is given, and 0 where none does.
+use Rattle.octets.specs.Words.{ℕ, _+_, _%_, Bool, false, cond, List, [], _∷_, ltb, eqb, length}
+use Rattle.octets.specs.{declared.Outcome.Outcome, Bits.bits, Bits.bit, Bits.find, Little.number, Outcome.accepted}
+use Rattle.octets.specs.{Outcome.refused}
+use Rattle.security.specs.{declared.OptionalCounter.OptionalCounter, Optional.levelTooLarge}
+use Rattle.header.specs.{declared.Header.Header, Record.addressesEnd, Record.headerLength, Write.lacksAddress}
+use Rattle.header.specs.{Write.lacksCounter}
 
 -- bytes of an address by the number of its mode: 4 or 10, without its PAN id 2 or 8
 abbrev pub addressSize : Bool → ℕ → ℕ
@@ -34,7 +26,8 @@ fromEnd w = toEnd w + addressSize (bit w 6) (bits w 14 2)
 abbrev pub wholeEnd : List ℕ → ℕ → ℕ
 wholeEnd s w = cond (bit w 3) (fromEnd w + securitySize (bits (number s (fromEnd w) 1) 3 2)) (fromEnd w)
 
--- Reading: 1 below three bytes; 2; 3; 4 destination; 4 source; and behind the frame control 1 destination; 5; 1 source; 1 security part.
+-- Reading: 1 below three bytes; 2; 3; 4 destination; 4 source; and behind the frame control 1 destination; 5; 1 source;
+-- 1 security part.
 abbrev pub fieldTests : List ℕ → ℕ → List (Bool × ℕ)
 fieldTests s w =
     (ltb (length s) (toEnd w), 1) ∷

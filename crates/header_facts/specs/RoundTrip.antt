@@ -1,29 +1,21 @@
--- Demand 3 for a header: read, written again with the counter that was read, and read once more; and the same from a record's side.
-use Prim.Native.Nat.{ℕ, _^_, _≤_, _<_}
-use mathlib.Core.Bool.{Bool, true, false, cond}
-use mathlib.Core.List.{List, _++_}
-use mathlib.Core.Path.{_≡_}
-use lib.ListN.{length, take, drop}
-use Rattle.octets.specs.Bits.{bit, clearAt}
-use Rattle.octets.specs.Buffer.{laid}
-use Rattle.key_identifier.specs.Key.{SmallKey}
-use Rattle.address.specs.declared.OptionalAddress.{OptionalAddress}
-use Rattle.address.specs.declared.OptionalAddress.the-variants as Address
-use Rattle.address.specs.Address.{sharedPan}
-use Rattle.address.specs.Layout.{sharing, SmallAddress}
-use Rattle.security.specs.declared.OptionalSecurityHeader.{OptionalSecurityHeader}
+-- Demand 3 for a header: read, written again with the counter that was read, and read once more; and the same from a
+-- record's side.
+use Rattle.octets.specs.Words.{ℕ, _^_, _≤_, _<_, Bool, true, false, cond, List, _++_, _≡_, length, take, drop}
+use Rattle.octets.specs.{Bits.bit, Bits.clearAt, Buffer.laid}
+use Rattle.key_identifier.specs.{Key.SmallKey}
+use Rattle.address.specs.{declared.OptionalAddress.OptionalAddress, Address.sharedPan, Layout.sharing}
+use Rattle.address.specs.{Layout.SmallAddress}
+use Rattle.security.specs.{declared.OptionalSecurityHeader.OptionalSecurityHeader, Optional.counterOf}
+use Rattle.security.specs.{Optional.counterRead, RoundTrip.told}
 use Rattle.security.specs.declared.OptionalSecurityHeader.the-variants.{Absent, Present}
-use Rattle.security.specs.Optional.{counterOf, counterRead}
-use Rattle.security.specs.RoundTrip.{told}
-use Rattle.header.specs.declared.Header.{Header}
+use Rattle.header.specs.{declared.Header.Header, Record.sourceOwn, Record.addressesEnd, Record.headerLength}
+use Rattle.header.specs.{Read.readHeader, Write.writeHeader, Write.headerBytes}
 use Rattle.header.specs.declared.HeaderRead.the-variants.{Read}
 use Rattle.header.specs.declared.HeaderWritten.the-variants.{Written}
-use Rattle.header.specs.Record.{sourceOwn, addressesEnd, headerLength}
-use Rattle.header.specs.Read.{readHeader}
-use Rattle.header.specs.Write.{writeHeader, headerBytes}
-use Rattle.header_facts.specs.Order.{fromEnd}
+use Rattle.header_facts.specs.{Order.fromEnd}
 
--- the record with the two flags that writing loses, `seq_no_suppress` and `ie_present`, false, and with the source and security part given
+-- the record with the two flags that writing loses, `seq_no_suppress` and `ie_present`, false, and with the source and
+-- security part given
 abbrev pub quiet : Header → OptionalAddress → OptionalSecurityHeader → Header
 quiet h source security =
     record {
@@ -47,8 +39,9 @@ lost h = quiet h (h .source) (h .«auxiliary_security_header»)
 abbrev pub rewritten : Header → List ℕ
 rewritten h = headerBytes h (counterOf (counterRead (h .«auxiliary_security_header»)))
 
--- the bytes s that were read as h, with frame-control bits 7, 8, 9 and security control bits 5, 6, 7 cleared and no others (document 01, "Bits that
--- writing clears"): bit 7 of byte 0, bits 0 and 1 of byte 1, and bits 5 to 7 of the byte where the security part begins
+-- the bytes s that were read as h, with frame-control bits 7, 8, 9 and security control bits 5, 6, 7 cleared and no
+-- others (document 01, "Bits that writing clears"): bit 7 of byte 0, bits 0 and 1 of byte 1, and bits 5 to 7 of the
+-- byte where the security part begins
 abbrev pub clearControl : OptionalSecurityHeader → ℕ → List ℕ → List ℕ
 clearControl Absent at s = s
 clearControl (Present k) at s = clearAt at 5 3 s
@@ -62,8 +55,8 @@ clearedBy w l = cond (bit w 3) (clearAt (fromEnd w) 5 3 (clearAt 1 0 2 (clearAt 
 
 -- compression set without a source: read, and not written (document 01, P9)
 abbrev pub isAbsent : OptionalAddress → Bool
-isAbsent Address.Absent = true
-isAbsent (Address.Present a) = false
+isAbsent OptionalAddress.Absent = true
+isAbsent (OptionalAddress.Present a) = false
 
 abbrev pub sourceless : Header → Bool
 sourceless h = cond (h .«pan_id_compress») (isAbsent (h .source)) false
@@ -88,8 +81,8 @@ pub record RoundTrip (s : List ℕ) (h : Header) (n : ℕ) : Type 0 where
   -- bytes added behind the input alter none of this
   pub behind : (more : List ℕ) → readHeader (s ++ more) ≡ Read h n
 
--- From the record's side. What is read of a record that was written with a counter: both flags false, that counter, the key mode of the key
--- identifier and, under compression, the destination's PAN id for the source's.
+-- From the record's side. What is read of a record that was written with a counter: both flags false, that counter, the
+-- key mode of the key identifier and, under compression, the destination's PAN id for the source's.
 abbrev pub toldPart : OptionalSecurityHeader → ℕ → OptionalSecurityHeader
 toldPart Absent counter = Absent
 toldPart (Present k) counter = Present (told k counter)

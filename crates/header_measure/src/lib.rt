@@ -1,8 +1,6 @@
-// Number and length of the header at the beginning of a slice, told by the bits of its frame control. No record is made.
-ghost use mathlib.Core.Path.{_≡_};
-ghost use mathlib.Core.Bool.{false, cond};
-ghost use Prim.Native.Nat.{_≤_, _<_};
-ghost use lib.Dec.{eqb};
+// Number and length of the header at the beginning of a slice, told by the bits of its frame control. No record is
+// made.
+ghost use Rattle.octets.specs.Words.{_≤_, _<_, false, cond, _≡_, eqb};
 ghost use Rattle.octets.specs.Bits.{bits, bit};
 ghost use Rattle.octets.specs.Little.{number};
 ghost use Rattle.header.specs.Read.{readHeader, readOutcome};
@@ -19,8 +17,10 @@ fn byte_at(s: &[u8], at: usize) -> u8
 
 // Bytes of an address by its compression bit and the number of its mode. Asks that these are one bit and two.
 fn address_size(compressed: usize, mode: usize) -> usize
-    requires { ⌜ (compressed < 2) × (mode < 4) ⌝ }
-    ensures { λ r. ⌜ (r ≡ addressSize (eqb compressed 1) mode) × (r ≤ 10) ⌝ }
+    requires { ⌜ compressed < 2 ⌝ }
+    requires { ⌜ mode < 4 ⌝ }
+    ensures { λ r. ⌜ r ≡ addressSize (eqb compressed 1) mode ⌝ }
+    ensures { λ r. ⌜ r ≤ 10 ⌝ }
 {
     match 4 * compressed + mode {
         2 => 4,
@@ -33,21 +33,24 @@ fn address_size(compressed: usize, mode: usize) -> usize
 
 // Where the destination ends by a frame control.
 fn destination_end(w: usize) -> usize
-    ensures { λ r. ⌜ (r ≡ toEnd w) × (r ≤ 13) ⌝ }
+    ensures { λ r. ⌜ r ≡ toEnd w ⌝ }
+    ensures { λ r. ⌜ r ≤ 13 ⌝ }
 {
     3 + address_size(0, w / 1024 % 4)
 }
 
 // Where the addresses end by a frame control.
 pub fn addresses_end(w: usize) -> usize
-    ensures { λ r. ⌜ (r ≡ fromEnd w) × (r ≤ 23) ⌝ }
+    ensures { λ r. ⌜ r ≡ fromEnd w ⌝ }
+    ensures { λ r. ⌜ r ≤ 23 ⌝ }
 {
     destination_end(w) + address_size(w / 64 % 2, w / 16384 % 4)
 }
 
 // Bytes of a security part by the number of its key mode.
 fn security_size(mode: u8) -> usize
-    ensures { λ r. ⌜ (r ≡ securitySize mode) × (r ≤ 14) ⌝ }
+    ensures { λ r. ⌜ r ≡ securitySize mode ⌝ }
+    ensures { λ r. ⌜ r ≤ 14 ⌝ }
 {
     match mode {
         0 => 5,
@@ -57,10 +60,13 @@ fn security_size(mode: u8) -> usize
     }
 }
 
-// Where the header ends by a frame control, and by the security control where the addresses end, at the place that is handed over.
+// Where the header ends by a frame control, and by the security control where the addresses end, at the place that is
+// handed over.
 fn whole_end(s: &[u8], w: usize, at: usize) -> usize
-    requires { ⌜ (at ≡ fromEnd w) × (at ≤ 23) ⌝ }
-    ensures { λ r. ⌜ (r ≡ wholeEnd (now (s .entry)) w) × (r ≤ 37) ⌝ }
+    requires { ⌜ at ≡ fromEnd w ⌝ }
+    requires { ⌜ at ≤ 23 ⌝ }
+    ensures { λ r. ⌜ r ≡ wholeEnd (now (s .entry)) w ⌝ }
+    ensures { λ r. ⌜ r ≤ 37 ⌝ }
 {
     if w / 8 % 2 == 1 {
         at + security_size(byte_at(s, at) / 8 % 4)

@@ -1,10 +1,7 @@
 -- Bytes in hex: document 01, "Line program", "bytes in hex (either case, possibly none)" and "an odd or foreign digit".
-use Prim.Native.Nat.{ℕ, _+_, _-_, _*_, _%_}
-use mathlib.Core.Bool.{Bool, true, false, cond, _&&_}
-use mathlib.Core.List.{List, [], _∷_}
-use lib.Dec.{leb, ltb, eqb}
-use lib.ListN.{length, take, drop}
-use Rattle.octets.specs.Order.{first}
+use Rattle.octets.specs.Words.{ℕ, _+_, _-_, _*_, _%_, Bool, true, false, cond, _&&_, List, [], _∷_, ltb, leb, eqb}
+use Rattle.octets.specs.Words.{length, take, drop}
+use Rattle.octets.specs.{Order.first}
 
 -- b is one of the count bytes from low on
 abbrev pub among : ℕ → ℕ → ℕ → Bool

@@ -1,9 +1,7 @@
 // Bytes in hex, two digits of either case to a byte.
 mod table;
 
-ghost use mathlib.Core.Path.{_≡_};
-ghost use Prim.Native.Nat.{ℕ, _-_, _/_, _<_, min};
-ghost use lib.ListN.{length, getD};
+ghost use Rattle.octets.specs.Words.{ℕ, _-_, _/_, _<_, min, _≡_, length, getD};
 ghost use Rattle.octets.specs.Buffer.{laid};
 ghost use Rattle.hex.specs.Hex.{digit, decoded};
 use octets::left;
@@ -24,10 +22,12 @@ fn most(s: &[u8], at: usize, room: usize) -> usize
     if pairs < room { pairs } else { room }
 }
 
-// Decodes the pairs of digits from a place of s on into out, up to the first pair that is not two digits or the end of out's room, and
-// returns how many bytes that gave. The digits are whole, neither odd nor foreign, where twice that many end s.
+// Decodes the pairs of digits from a place of s on into out, up to the first pair that is not two digits or the end of
+// out's room, and returns how many bytes that gave. The digits are whole, neither odd nor foreign, where twice that
+// many end s.
 pub fn decode(s: &[u8], at: usize, out: &mut [u8]) -> usize
-    ensures { λ r. ⌜ (r ≡ length (decoded (now (s .entry)) at (length (now (out .entry))))) × (now (out .exit) ≡ laid (now (out .entry)) 0 (decoded (now (s .entry)) at (length (now (out .entry))))) ⌝ }
+    ensures { λ r. ⌜ r ≡ length (decoded (now (s .entry)) at (length (now (out .entry)))) ⌝ }
+    ensures { λ r. ⌜ now (out .exit) ≡ laid (now (out .entry)) 0 (decoded (now (s .entry)) at (length (now (out .entry)))) ⌝ }
 {
     let value = values();
     let end = most(s, at, out.len());

@@ -1,6 +1,6 @@
-// PAN ids, short addresses and extended addresses: three wrappers that are never mixed, each with its own broadcast form, read and written
-// as a part of a slice at a place.
-ghost use mathlib.Core.Path.{_≡_};
+// PAN ids, short addresses and extended addresses: three wrappers that are never mixed, each with its own broadcast
+// form, read and written as a part of a slice at a place.
+ghost use Rattle.octets.specs.Words.{_≡_};
 ghost use Rattle.octets.specs.Buffer.{after};
 ghost use Rattle.octets.specs.Little.{split};
 ghost use Rattle.octets.specs.Part.{writePart, partOutcome};
@@ -58,9 +58,10 @@ impl PanId {
     }
 
     pub fn write(self, out: &mut [u8], at: usize) -> PartWritten
-        ensures { λ r. ⌜ (r ≡ writePart (now (out .entry)) at 2) × (now (out .exit) ≡ after (partOutcome r) (now (out .entry)) at (split 2 (self .0))) ⌝ }
+        ensures { λ r. ⌜ r ≡ writePart (now (out .entry)) at 2 ⌝ }
+        ensures { λ r. ⌜ now (out .exit) ≡ after (partOutcome r) (now (out .entry)) at (split 2 (self .0)) ⌝ }
     {
-        write_number(out, at, 2, self.0 as u64)
+        write_number(self.0 as u64, 2, out, at)
     }
 }
 
@@ -108,9 +109,10 @@ impl ShortAddress {
     }
 
     pub fn write(self, out: &mut [u8], at: usize) -> PartWritten
-        ensures { λ r. ⌜ (r ≡ writePart (now (out .entry)) at 2) × (now (out .exit) ≡ after (partOutcome r) (now (out .entry)) at (split 2 (self .0))) ⌝ }
+        ensures { λ r. ⌜ r ≡ writePart (now (out .entry)) at 2 ⌝ }
+        ensures { λ r. ⌜ now (out .exit) ≡ after (partOutcome r) (now (out .entry)) at (split 2 (self .0)) ⌝ }
     {
-        write_number(out, at, 2, self.0 as u64)
+        write_number(self.0 as u64, 2, out, at)
     }
 }
 
@@ -158,8 +160,9 @@ impl ExtendedAddress {
     }
 
     pub fn write(self, out: &mut [u8], at: usize) -> PartWritten
-        ensures { λ r. ⌜ (r ≡ writePart (now (out .entry)) at 8) × (now (out .exit) ≡ after (partOutcome r) (now (out .entry)) at (split 8 (self .0))) ⌝ }
+        ensures { λ r. ⌜ r ≡ writePart (now (out .entry)) at 8 ⌝ }
+        ensures { λ r. ⌜ now (out .exit) ≡ after (partOutcome r) (now (out .entry)) at (split 8 (self .0)) ⌝ }
     {
-        write_number(out, at, 8, self.0)
+        write_number(self.0, 8, out, at)
     }
 }

@@ -1,8 +1,6 @@
 // The key identifier: an optional source and an index, announced by the key identifier mode of the security control.
 // Functions with a `requires` are building blocks of this project's readers and writers, which measure first.
-ghost use mathlib.Core.Path.{_≡_};
-ghost use Prim.Native.Nat.{_+_, _≤_};
-ghost use lib.ListN.{length};
+ghost use Rattle.octets.specs.Words.{_+_, _≤_, _≡_, length};
 ghost use Rattle.octets.specs.Buffer.{laid};
 ghost use Rattle.key_identifier.specs.Key.{modeOfKey, keyLength, keyIn, sourceLength, sourceBytes, keyBytes};
 use octets::put;
@@ -54,7 +52,8 @@ impl OptionalKeyIdentifier {
 
 // How many bytes a key identifier of a mode takes.
 pub fn key_octets(mode: KeyIdentifierMode) -> usize
-    ensures { λ r. ⌜ (r ≡ keyLength mode) × (r ≤ 9) ⌝ }
+    ensures { λ r. ⌜ r ≡ keyLength mode ⌝ }
+    ensures { λ r. ⌜ r ≤ 9 ⌝ }
 {
     match mode {
         KeyIdentifierMode::None => 0,
@@ -89,26 +88,28 @@ pub fn key_at(s: &[u8], at: usize, mode: KeyIdentifierMode) -> OptionalKeyIdenti
 // Stores a key source, or nothing, at a place and returns the place behind it. Asks for its room.
 fn put_source(out: &mut [u8], at: usize, source: OptionalKeySource) -> usize
     requires { ⌜ at + sourceLength source ≤ length (now out) ⌝ }
-    ensures { λ r. ⌜ (r ≡ at + sourceLength source) × (now (out .exit) ≡ laid (now (out .entry)) at (sourceBytes source)) ⌝ }
+    ensures { λ r. ⌜ r ≡ at + sourceLength source ⌝ }
+    ensures { λ r. ⌜ now (out .exit) ≡ laid (now (out .entry)) at (sourceBytes source) ⌝ }
 {
     let OptionalKeySource::Present(present) = source else {
         return at;
     };
     match present {
-        KeySource::Short(number) => put(out, at, 4, number as u64),
-        KeySource::Long(number) => put(out, at, 8, number),
+        KeySource::Short(number) => put(number as u64, 4, out, at),
+        KeySource::Long(number) => put(number, 8, out, at),
     }
 }
 
 // Stores a key identifier, or nothing, at a place and returns the place behind it. Asks for its room.
 pub fn put_key(out: &mut [u8], at: usize, key: OptionalKeyIdentifier) -> usize
     requires { ⌜ at + keyLength (modeOfKey key) ≤ length (now out) ⌝ }
-    ensures { λ r. ⌜ (r ≡ at + keyLength (modeOfKey key)) × (now (out .exit) ≡ laid (now (out .entry)) at (keyBytes key)) ⌝ }
+    ensures { λ r. ⌜ r ≡ at + keyLength (modeOfKey key) ⌝ }
+    ensures { λ r. ⌜ now (out .exit) ≡ laid (now (out .entry)) at (keyBytes key) ⌝ }
 {
     let OptionalKeyIdentifier::Present(present) = key else {
         return at;
     };
     let source = present.key_source;
     let next = put_source(out, at, source);
-    put(out, next, 1, present.key_index as u64)
+    put(present.key_index as u64, 1, out, next)
 }

@@ -11,7 +11,7 @@ use lib.Dec.{ltb, eqb}
 use lib.ListN.{length, take, drop, length-drop}
 use lib.Seq.{length-take-le, take-all, drop-append-add}
 use Rattle.octets.specs.Order.{first}
-use Rattle.octets.proofs.Order.{cases, holds?}
+use Rattle.octets.proofs.Cases.{cases, holds?}
 use Rattle.line_cutter.specs.Line.{before}
 use Rattle.line_cutter.proofs.Line.{Free, before-free, before-take, before-stop, before-part-at, free-first}
 use Rattle.hex.specs.Hex.{isDigit, odd, foreign, unhex, decoded, digit}

@@ -1,14 +1,9 @@
 -- The answer to one line, given without its line feed: document 01, "Line program".
-use Prim.Native.Nat.{ℕ, suc, _+_, _/_, _%_}
-use mathlib.Core.Bool.{cond, not}
-use mathlib.Core.List.{List, [], _∷_, _++_}
-use lib.Dec.{ltb, eqb}
-use lib.ListN.{length, drop}
-use Rattle.octets.specs.declared.Outcome.{Outcome}
-use Rattle.octets.specs.Order.{first}
-use Rattle.line_cutter.specs.Line.{before}
-use Rattle.hex.specs.Hex.{odd, foreign, unhex}
-use Rattle.header.specs.Read.{readHeader, readOutcome}
+use Rattle.octets.specs.Words.{ℕ, suc, _+_, _/_, _%_, cond, not, List, [], _∷_, _++_, ltb, eqb, length, drop}
+use Rattle.octets.specs.{declared.Outcome.Outcome, Order.first}
+use Rattle.line_cutter.specs.{Line.before}
+use Rattle.hex.specs.{Hex.odd, Hex.foreign, Hex.unhex}
+use Rattle.header.specs.{Read.readHeader, Read.readOutcome}
 
 -- how many tabs, byte 9, a line has
 unfoldable pub tabs : List ℕ → ℕ
@@ -34,7 +29,8 @@ told o = 9 ∷ (48 + o .number) ∷ 9 ∷ (decimal (o .length) ++ (10 ∷ []))
 unfoldable pub bad : List ℕ
 bad = 98 ∷ 97 ∷ 100 ∷ 10 ∷ []
 
--- `bad` above 1,024 bytes, without exactly one tab, with a digit left over or a foreign digit; else the label and what the header says
+-- `bad` above 1,024 bytes, without exactly one tab, with a digit left over or a foreign digit; else the label and what
+-- the header says
 unfoldable pub answer : List ℕ → List ℕ
 answer l =
     first ((ltb 1024 (length l), bad) ∷ (not (eqb (tabs l) 1), bad) ∷ (odd (digits l), bad) ∷ (foreign (digits l), bad) ∷ [])

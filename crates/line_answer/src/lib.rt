@@ -1,7 +1,5 @@
 // The answer to one line, stored into a buffer. The functions ask for room (`requires`).
-ghost use mathlib.Core.List.{[], _∷_, _++_};
-ghost use Prim.Native.Nat.{_+_, _≤_, _<_};
-ghost use lib.ListN.{length};
+ghost use Rattle.octets.specs.Words.{_+_, _≤_, _<_, [], _∷_, _++_, length};
 ghost use Rattle.header.specs.Read.{readHeader, readOutcome};
 ghost use Rattle.line_answer.specs.Answer.{decimal, told, bad, answer};
 ghost use Rattle.octets.specs.Stored.{Stored};
@@ -13,7 +11,8 @@ use octets::Outcome;
 
 // Stores a number below 100 in decimal and a line feed.
 fn put_length(k: usize, out: &mut [u8], at: usize) -> usize
-    requires { ⌜ (k < 100) × (at + 3 ≤ length (now out)) ⌝ }
+    requires { ⌜ k < 100 ⌝ }
+    requires { ⌜ at + 3 ≤ length (now out) ⌝ }
     ensures { λ r. ⌜ Stored (now (out .entry)) at (decimal k ++ (10 ∷ [])) (now (out .exit)) r ⌝ }
     ensures { λ r. ⌜ r ≤ at + 3 ⌝ }
 {
@@ -30,7 +29,9 @@ fn put_length(k: usize, out: &mut [u8], at: usize) -> usize
 
 // Stores what stands behind a label: an answer's number and length.
 fn put_told(o: Outcome, out: &mut [u8], at: usize) -> usize
-    requires { ⌜ (o .number ≤ 5) × (o .length ≤ 37) × (at + 6 ≤ length (now out)) ⌝ }
+    requires { ⌜ o .number ≤ 5 ⌝ }
+    requires { ⌜ o .length ≤ 37 ⌝ }
+    requires { ⌜ at + 6 ≤ length (now out) ⌝ }
     ensures { λ r. ⌜ Stored (now (out .entry)) at (told o) (now (out .exit)) r ⌝ }
     ensures { λ r. ⌜ r ≤ at + 6 ⌝ }
 {

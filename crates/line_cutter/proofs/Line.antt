@@ -13,7 +13,7 @@ use lib.ListN.{length, getD, set, take, drop, length-append, length-take, length
 use lib.Seq.{drop-cons, take-all, take-nil, take-at, take-append-add, length-take-le, drop-drop, split-at}
 use Rattle.octets.specs.Buffer.{laid}
 use Rattle.octets.proofs.Buffer.{laid-none, laid-cons, laid-parts}
-use Rattle.octets.proofs.Order.{cases, holds?}
+use Rattle.octets.proofs.Cases.{cases, holds?}
 use Rattle.line_cutter.specs.declared.Taken.{Taken}
 use Rattle.line_cutter.specs.Line.{before, lineOf, lineEnds, behind, fitting, taken}
 

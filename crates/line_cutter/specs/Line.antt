@@ -1,10 +1,6 @@
 -- One line of an input at a time (document 01, "Line program"): a line feed, byte 10, ends a line and is no part of it.
-use Prim.Native.Nat.{ℕ, _+_, _-_}
-use mathlib.Core.Bool.{Bool, cond, _||_}
-use mathlib.Core.List.{List, [], _∷_}
-use lib.Dec.{ltb, eqb}
-use lib.ListN.{length, take, drop}
-use Rattle.line_cutter.specs.declared.Taken.{Taken}
+use Rattle.octets.specs.Words.{ℕ, _+_, _-_, Bool, cond, _||_, List, [], _∷_, ltb, eqb, length, take, drop}
+use Rattle.line_cutter.specs.{declared.Taken.Taken}
 
 -- the bytes of s before the first that is a or b
 unfoldable pub before : ℕ → ℕ → List ℕ → List ℕ

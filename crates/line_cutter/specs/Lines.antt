@@ -1,10 +1,6 @@
--- All lines of an input: each that a line feed ends, and a last one that need not be ended. An input that ends in a line feed has no
--- further line (document 01, "Line program": "A last line need not be ended").
-use mathlib.Core.Bool.{cond}
-use mathlib.Core.List.{List, [], _∷_, _++_}
-use Prim.Native.Nat.{ℕ}
-use lib.Dec.{eqb}
-use lib.ListN.{take}
+-- All lines of an input: each that a line feed ends, and a last one that need not be ended. An input that ends in a
+-- line feed has no further line (document 01, "Line program": "A last line need not be ended").
+use Rattle.octets.specs.Words.{ℕ, cond, List, [], _∷_, _++_, eqb, take}
 
 -- the lines that end in s, where l is what came of the first one before s
 unfoldable pub ended : List ℕ → List ℕ → List (List ℕ)

@@ -1,13 +1,13 @@
-// Cuts input that comes in chunks into lines. The line at hand is the first n bytes of a buffer that the caller lends, which keeps as
-// much of a line as has room: one byte more than the longest line allowed is enough to tell a longer one.
-ghost use mathlib.Core.Path.{_≡_};
-ghost use Prim.Native.Nat.{_+_, min};
-ghost use lib.ListN.{length, drop};
+// Cuts input that comes in chunks into lines. The line at hand is the first n bytes of a buffer that the caller lends,
+// which keeps as much of a line as has room: one byte more than the longest line allowed is enough to tell a longer
+// one.
+ghost use Rattle.octets.specs.Words.{_+_, min, _≡_, length, drop};
 ghost use Rattle.octets.specs.Buffer.{laid};
 ghost use Rattle.line_cutter.specs.Line.{before, fitting, lineOf, taken};
 use octets::left;
 
-// What was taken of a chunk: how many bytes of the line at hand are kept, the place up to which the chunk is used, and whether the line has ended.
+// What was taken of a chunk: how many bytes of the line at hand are kept, the place up to which the chunk is used, and
+// whether the line has ended.
 pub struct Taken {
     pub n: usize,
     pub at: usize,
@@ -40,7 +40,8 @@ fn least(a: usize, b: usize) -> usize
 
 // Stores s from a place of out on, as much of it as has room, and returns the place behind it.
 pub fn copy(s: &[u8], out: &mut [u8], at: usize) -> usize
-    ensures { λ r. ⌜ (r ≡ at + length (fitting (now (out .entry)) at (now (s .entry)))) × (now (out .exit) ≡ laid (now (out .entry)) at (fitting (now (out .entry)) at (now (s .entry)))) ⌝ }
+    ensures { λ r. ⌜ r ≡ at + length (fitting (now (out .entry)) at (now (s .entry))) ⌝ }
+    ensures { λ r. ⌜ now (out .exit) ≡ laid (now (out .entry)) at (fitting (now (out .entry)) at (now (s .entry))) ⌝ }
 {
     let end = least(s.len(), left(out, at));
     let mut i = 0;
@@ -51,10 +52,11 @@ pub fn copy(s: &[u8], out: &mut [u8], at: usize) -> usize
     at + end
 }
 
-// Adds the bytes of a chunk, from a place on and up to a line feed, to the n bytes of the line at hand, as many as have room. The line
-// feed is used up, and is not kept.
+// Adds the bytes of a chunk, from a place on and up to a line feed, to the n bytes of the line at hand, as many as have
+// room. The line feed is used up, and is not kept.
 pub fn cut(chunk: &[u8], at: usize, line: &mut [u8], n: usize) -> Taken
-    ensures { λ r. ⌜ (r ≡ taken (drop at (now (chunk .entry))) at (now (line .entry)) n) × (now (line .exit) ≡ laid (now (line .entry)) n (fitting (now (line .entry)) n (lineOf (drop at (now (chunk .entry)))))) ⌝ }
+    ensures { λ r. ⌜ r ≡ taken (drop at (now (chunk .entry))) at (now (line .entry)) n ⌝ }
+    ensures { λ r. ⌜ now (line .exit) ≡ laid (now (line .entry)) n (fitting (now (line .entry)) n (lineOf (drop at (now (chunk .entry))))) ⌝ }
 {
     if at >= chunk.len() {
         return Taken {

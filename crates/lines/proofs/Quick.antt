@@ -9,7 +9,7 @@ use borrow.Author.Tests.{ltb-true, eqb-true}
 use lib.Dec.{ltb}
 use lib.ListN.{length, getD, take, drop, length-append, length-drop}
 use lib.Seq.{split-at, getD-drop, drop-drop, length-take-le}
-use Rattle.octets.proofs.Order.{cases, holds?}
+use Rattle.octets.proofs.Cases.{cases, holds?}
 use Rattle.line_cutter.specs.Line.{before}
 use Rattle.line_cutter.proofs.Line.{Free, free-append, free-first, free-second, before-part}
 use Rattle.hex.specs.Hex.{unhex, decoded}

@@ -1,12 +1,9 @@
 -- The whole output of the line program, and what one chunk of its input adds to it.
-use Prim.Native.Nat.{ℕ, _+_, _-_, _*_, _≤_, _<_}
-use mathlib.Core.Bool.{Bool, _&&_}
-use mathlib.Core.List.{List, [], _∷_, _++_}
-use lib.Dec.{ltb, eqb}
-use lib.ListN.{length, getD, take}
-use Rattle.octets.specs.Buffer.{laid}
-use Rattle.line_cutter.specs.Lines.{ended, begun, last, lines}
-use Rattle.line_answer.specs.Answer.{answer}
+use Rattle.octets.specs.Words.{ℕ, _+_, _-_, _*_, _≤_, _<_, Bool, _&&_, List, [], _∷_, _++_, ltb, eqb, length, getD}
+use Rattle.octets.specs.Words.{take}
+use Rattle.octets.specs.{Buffer.laid}
+use Rattle.line_cutter.specs.{Lines.ended, Lines.begun, Lines.last, Lines.lines}
+use Rattle.line_answer.specs.{Answer.answer}
 
 -- the answers to lines, one after the other
 unfoldable pub answers : List (List ℕ) → List ℕ
@@ -35,7 +32,8 @@ fedTo l s out used = record {
   kept = take 1025 (begun l s);
 }
 
--- a step through a chunk of so many bytes goes on, and uses no more of the output than five bytes for each byte of the chunk
+-- a step through a chunk of so many bytes goes on, and uses no more of the output than five bytes for each byte of the
+-- chunk
 pub record Onward (size n used at n' used' at' : ℕ) : Type 0 where
   pub small : n' ≤ 1025
   pub later : at < at'

@@ -1,9 +1,6 @@
-// The line program on slices: what a chunk of the input adds to the output, and what its end adds. The functions ask for room
-// (`requires`); the line at hand is the first n bytes of a buffer of 1,025, one more than the longest line.
-ghost use mathlib.Core.List.{[], _++_};
-ghost use mathlib.Core.Path.{_≡_};
-ghost use Prim.Native.Nat.{_+_, _-_, _*_, _≤_, _<_};
-ghost use lib.ListN.{length, take, drop, replicate};
+// The line program on slices: what a chunk of the input adds to the output, and what its end adds. The functions ask
+// for room (`requires`); the line at hand is the first n bytes of a buffer of 1,025, one more than the longest line.
+ghost use Rattle.octets.specs.Words.{_+_, _-_, _*_, _≤_, _<_, [], _++_, _≡_, length, take, drop, replicate};
 ghost use Rattle.line_cutter.specs.Lines.{last};
 ghost use Rattle.octets.specs.Stored.{Stored};
 ghost use Rattle.lines.specs.Output.{isAt, Onward, answers, fedTo};
@@ -28,7 +25,10 @@ struct Step {
 
 // Takes a chunk from a place on up to the end of the line at hand, and stores the answer to that line where it ends.
 fn put_line(chunk: &[u8], at: usize, line: &mut [u8], n: usize, out: &mut [u8], used: usize) -> Step
-    requires { ⌜ (n ≤ 1025) × (length (now line) ≡ 1025) × (at < length (now chunk)) × (used + n + 5 * (length (now chunk) - at) ≤ length (now out)) ⌝ }
+    requires { ⌜ n ≤ 1025 ⌝ }
+    requires { ⌜ length (now line) ≡ 1025 ⌝ }
+    requires { ⌜ at < length (now chunk) ⌝ }
+    requires { ⌜ used + n + 5 * (length (now chunk) - at) ≤ length (now out) ⌝ }
     ensures { λ r. ⌜ fedTo (take (r .n) (now (line .exit))) (drop (r .at) (now (chunk .entry))) (now (out .exit)) (r .used) ≡ fedTo (take n (now (line .entry))) (drop at (now (chunk .entry))) (now (out .entry)) used ⌝ }
     ensures { λ r. ⌜ Onward (length (now (chunk .entry))) n used at (r .n) (r .used) (r .at) ⌝ }
 {
@@ -55,12 +55,17 @@ fn is_at(s: &[u8], i: usize, b: u8) -> bool
     if i < s.len() { s[i] == b } else { false }
 }
 
-// The quick way: where a line begins at a place of a chunk, ends in it and is not bad, stores its answer from where it lies. Otherwise it
-// stores nothing, and no byte is used.
+// The quick way: where a line begins at a place of a chunk, ends in it and is not bad, stores its answer from where it
+// lies. Otherwise it stores nothing, and no byte is used.
 fn put_quick(chunk: &[u8], at: usize, frame: &mut [u8], out: &mut [u8], used: usize) -> Step
-    requires { ⌜ (at ≤ length (now chunk)) × (length (now frame) ≡ 512) × (used + 5 * (length (now chunk) - at) ≤ length (now out)) ⌝ }
+    requires { ⌜ at ≤ length (now chunk) ⌝ }
+    requires { ⌜ length (now frame) ≡ 512 ⌝ }
+    requires { ⌜ used + 5 * (length (now chunk) - at) ≤ length (now out) ⌝ }
     ensures { λ r. ⌜ fedTo [] (drop (r .at) (now (chunk .entry))) (now (out .exit)) (r .used) ≡ fedTo [] (drop at (now (chunk .entry))) (now (out .entry)) used ⌝ }
-    ensures { λ r. ⌜ (r .n ≡ 0) × (at ≤ r .at) × (r .at ≤ length (now (chunk .entry))) × (r .used + 5 * (length (now (chunk .entry)) - r .at) ≤ used + 5 * (length (now (chunk .entry)) - at)) ⌝ }
+    ensures { λ r. ⌜ r .n ≡ 0 ⌝ }
+    ensures { λ r. ⌜ at ≤ r .at ⌝ }
+    ensures { λ r. ⌜ r .at ≤ length (now (chunk .entry)) ⌝ }
+    ensures { λ r. ⌜ r .used + 5 * (length (now (chunk .entry)) - r .at) ≤ used + 5 * (length (now (chunk .entry)) - at) ⌝ }
 {
     let tab = find(chunk, at, 9, 10);
     if !is_at(chunk, tab, 9) {
@@ -92,7 +97,11 @@ fn put_next(
     out: &mut [u8],
     used: usize,
 ) -> Step
-    requires { ⌜ (n ≤ 1025) × (length (now line) ≡ 1025) × (at < length (now chunk)) × (length (now frame) ≡ 512) × (used + n + 5 * (length (now chunk) - at) ≤ length (now out)) ⌝ }
+    requires { ⌜ n ≤ 1025 ⌝ }
+    requires { ⌜ length (now line) ≡ 1025 ⌝ }
+    requires { ⌜ at < length (now chunk) ⌝ }
+    requires { ⌜ length (now frame) ≡ 512 ⌝ }
+    requires { ⌜ used + n + 5 * (length (now chunk) - at) ≤ length (now out) ⌝ }
     ensures { λ r. ⌜ fedTo (take (r .n) (now (line .exit))) (drop (r .at) (now (chunk .entry))) (now (out .exit)) (r .used) ≡ fedTo (take n (now (line .entry))) (drop at (now (chunk .entry))) (now (out .entry)) used ⌝ }
     ensures { λ r. ⌜ Onward (length (now (chunk .entry))) n used at (r .n) (r .used) (r .at) ⌝ }
 {
@@ -106,12 +115,15 @@ fn put_next(
     put_line(chunk, at, line, n, out, quick.used)
 }
 
-// A chunk of the input: stores the answers to the lines that end in it, and keeps what has come of the next line; behind that the line
-// buffer holds what it happens to.
+// A chunk of the input: stores the answers to the lines that end in it, and keeps what has come of the next line;
+// behind that the line buffer holds what it happens to.
 fn feed_lines(chunk: &[u8], line: &mut [u8], n: usize, out: &mut [u8]) -> Fed
-    requires { ⌜ (n ≤ 1025) × (length (now line) ≡ 1025) × (1025 + 5 * length (now chunk) ≤ length (now out)) ⌝ }
+    requires { ⌜ n ≤ 1025 ⌝ }
+    requires { ⌜ length (now line) ≡ 1025 ⌝ }
+    requires { ⌜ 1025 + 5 * length (now chunk) ≤ length (now out) ⌝ }
     ensures { λ r. ⌜ record { out = now (out .exit); used = r .used; kept = take (r .n) (now (line .exit)) } ≡ fedTo (take n (now (line .entry))) (now (chunk .entry)) (now (out .entry)) 0 ⌝ }
-    ensures { λ r. ⌜ (r .n ≤ 1025) × (r .used ≤ length (now (out .entry))) ⌝ }
+    ensures { λ r. ⌜ r .n ≤ 1025 ⌝ }
+    ensures { λ r. ⌜ r .used ≤ length (now (out .entry)) ⌝ }
 {
     let mut frame = [0u8; 512];
     let mut held = n;
@@ -137,11 +149,13 @@ fn blank(line: &mut [u8], from: usize)
     }
 }
 
-// A chunk of the input, of any length: stores the answers to the lines that end in it, from the beginning of out, and keeps what has come
-// of the next line, its first 1,025 bytes, with zeros behind it. Asks for a line of 1,025 bytes with at most as many in use, and for room:
-// five bytes for each of the chunk, and 1,025.
+// A chunk of the input, of any length: stores the answers to the lines that end in it, from the beginning of out, and
+// keeps what has come of the next line, its first 1,025 bytes, with zeros behind it. Asks for a line of 1,025 bytes
+// with at most as many in use, and for room: five bytes for each of the chunk, and 1,025.
 pub fn feed(chunk: &[u8], line: &mut [u8], n: usize, out: &mut [u8]) -> Fed
-    requires { ⌜ (n ≤ 1025) × (length (now line) ≡ 1025) × (1025 + 5 * length (now chunk) ≤ length (now out)) ⌝ }
+    requires { ⌜ n ≤ 1025 ⌝ }
+    requires { ⌜ length (now line) ≡ 1025 ⌝ }
+    requires { ⌜ 1025 + 5 * length (now chunk) ≤ length (now out) ⌝ }
     ensures { λ r. ⌜ record { out = now (out .exit); used = r .used; kept = take (r .n) (now (line .exit)) } ≡ fedTo (take n (now (line .entry))) (now (chunk .entry)) (now (out .entry)) 0 ⌝ }
     ensures { λ r. ⌜ (r .n ≤ 1025) × (r .used ≤ length (now (out .entry))) ⌝ }
     ensures { λ r. ⌜ now (line .exit) ≡ take (r .n) (now (line .exit)) ++ replicate (1025 - r .n) 0 ⌝ }
@@ -151,9 +165,11 @@ pub fn feed(chunk: &[u8], line: &mut [u8], n: usize, out: &mut [u8]) -> Fed
     fed
 }
 
-// The end of the input: stores the answer to a last line that was not ended. Asks that its n bytes are there, and for room: them and five.
+// The end of the input: stores the answer to a last line that was not ended. Asks that its n bytes are there, and for
+// room: them and five.
 pub fn finish(line: &[u8], n: usize, out: &mut [u8]) -> usize
-    requires { ⌜ (n ≤ length (now line)) × (n + 5 ≤ length (now out)) ⌝ }
+    requires { ⌜ n ≤ length (now line) ⌝ }
+    requires { ⌜ n + 5 ≤ length (now out) ⌝ }
     ensures { λ r. ⌜ Stored (now (out .entry)) 0 (answers (last (take n (now (line .entry))))) (now (out .exit)) r ⌝ }
     ensures { λ r. ⌜ r ≤ n + 5 ⌝ }
 {

@@ -1,7 +1,7 @@
 -- Laws of the bits of a number.
 -- Assumes nothing.
-use Prim.Native.Nat.{ℕ, zero, suc, _+_, _*_, _%_, _^_, _<_}
-use native.Mathlib.Nat.{mul-comm}
+use Prim.Native.Nat.{ℕ, zero, suc, _+_, _*_, _%_, _^_, _≤_, _<_}
+use native.Mathlib.Nat.{mul-comm, mod-le}
 use native.Mathlib.Omega.{arith}
 use mathlib.Core.Bool.{Bool, true, false}
 use mathlib.Core.List.{List, [], _∷_, _++_}
@@ -10,10 +10,12 @@ use mathlib.Core.Path.{_≡_, refl, sym, ap, _∙_}
 use borrow.Author.Tests.{eqb-true}
 use lib.Arith.{mod-mul}
 use lib.Dec.{eqb}
-use lib.ListN.{length}
+use lib.ListN.{length, set, length-set, List·getD-append}
 use lib.Pow.{pow-add, pow-pos}
-use Rattle.octets.specs.Bits.{bits, bitOf, clearAt, find}
-use Rattle.octets.proofs.Order.{cases, holds?}
+use Rattle.octets.specs.Bits.{bits, bitOf, clear, clearAt, find}
+use Rattle.octets.proofs.Cases.{cases, holds?}
+use Rattle.octets.proofs.Each.{same}
+use Rattle.octets.proofs.Lists.{set-append}
 
 -- a flag to a bit and back
 pub bit-back : (flag : Bool) → eqb (bitOf flag) 1 ≡ flag
@@ -32,6 +34,14 @@ bit-small false = omega arith
 -- the low bits and the next ones are the low bits of a longer part
 pub bits-join : (w at count : ℕ) → w % 2 ^ (at + count) ≡ bits w at count * 2 ^ at + w % 2 ^ at
 bits-join w at count = rw (pow-add 2 at count, mul-comm (2 ^ at) (2 ^ count)) (mod-mul w (pow-pos count) (pow-pos at))
+
+-- the bits of a number are a part of it
+pub bits-part : (w at count : ℕ) → bits w at count * 2 ^ at ≤ w
+bits-part w at count = omega (arith, bits-join w at count, mod-le w (2 ^ (at + count)))
+
+-- a one shifted within a byte
+pub shifted-one : (k : ℕ) → k < 8 → 1 * 2 ^ k % 256 ≡ 2 ^ k
+shifted-one k h = same (λ (k : ℕ). 1 * 2 ^ k % 256) (λ (k : ℕ). 2 ^ k) 8 tt k h
 
 -- each value of a table stands beside its own bits
 abbrev pub Beside : {A : Type 0} → (A → ℕ) → List (ℕ × A) → Type 0
@@ -54,3 +64,11 @@ clear-after (x ∷ p) l at count = ap (λ (l : List ℕ). x ∷ l) (clear-after 
 
 pub clear-behind : (p l : List ℕ) (place at count : ℕ) → length p ≡ place → clearAt place at count (p ++ l) ≡ p ++ clearAt 0 at count l
 clear-behind p l place at count e = rw (← e) (clear-after p l at count)
+
+-- bits cleared in front of other bytes
+pub clear-append : (l m : List ℕ) (place at count : ℕ) → place < length l → clearAt place at count (l ++ m) ≡ clearAt place at count l ++ m
+clear-append l m place at count h =
+    ap (λ (b : ℕ). set (l ++ m) place (clear at count b)) (List·getD-append l m 0 place h) ∙ set-append l m place _ h
+
+pub clear-length : (l : List ℕ) (place at count : ℕ) → length (clearAt place at count l) ≡ length l
+clear-length l place at count = length-set l place _

@@ -1,7 +1,12 @@
+pub mod Cases
+pub mod Lists
 pub mod Little
 pub mod Buffer
+pub mod Copying
 pub mod Bits
 pub mod Order
 pub mod Each
+pub mod Accepted
 pub mod Part
+pub mod Value
 pub mod Stored

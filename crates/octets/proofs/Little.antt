@@ -8,7 +8,7 @@ use mathlib.Core.List.{List, [], _∷_, _++_}
 use mathlib.Core.Path.{_≡_, refl, sym, ap, _∙_}
 use mir.Syntax.{w8}
 use mir.Val.{Fits}
-use lib.ListN.{length, getD, take, drop, length-drop}
+use lib.ListN.{length, getD, take, drop, length-drop, List·getD-eq-default}
 use lib.Seq.{drop-at, take-at, length-take-le, drop-append-le, take-append-le, take-add, drop-drop, drop-nil}
 use Rattle.octets.specs.Little.{join, split, number, Bytes}
 
@@ -83,6 +83,10 @@ unfolding number join
 number-one [] at = rw drop-nil
 number-one (x ∷ s) zero = omega arith
 number-one (x ∷ s) (suc at) = number-one s at
+
+-- past the end of a list
+pub number-past : (s : List ℕ) (at : ℕ) → length s ≤ at → number s at 1 ≡ 0
+number-past s at h = number-one s at ∙ List·getD-eq-default s 0 h
 
 pub number-join : (s : List ℕ) (at m n : ℕ) → at + m ≤ length s → number s at (m + n) ≡ number s at m + 256 ^ m * number s (at + m) n
 unfolding number

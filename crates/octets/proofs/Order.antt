@@ -1,8 +1,7 @@
 -- Laws of the first test that holds.
 -- Assumes nothing.
-use mathlib.Core.Bool.{Bool, true, false, true≢false, _||_}
+use mathlib.Core.Bool.{Bool, true, false, true≢false}
 use mathlib.Core.List.{List, [], _∷_, map}
-use mathlib.Core.Logic.{_⊎_, inl, inr, ⊎-elim}
 use mathlib.Core.Path.{_≡_, refl, sym, _∙_}
 use Rattle.octets.specs.Order.{first}
 
@@ -12,15 +11,6 @@ pub first-map : {A B : Type 0} (f : A → B) (tests : List (Bool × A)) (other :
 first-map f [] other = refl
 first-map f ((true, a) ∷ rest) other = refl
 first-map f ((false, a) ∷ rest) other = first-map f rest other
-
--- two cases, the sum that parts them first
-pub cases : {A B C : Type 0} → A ⊎ B → (A → C) → (B → C) → C
-cases sum left right = ⊎-elim left right sum
-
--- a test holds or fails
-pub holds? : (b : Bool) → (b ≡ true) ⊎ (b ≡ false)
-holds? true = inl refl
-holds? false = inr refl
 
 -- Where each answer beside a test is a refusal, an accepting answer says that no test holds and that it is the last one.
 abbrev pub Refusing : {A : Type 0} → (A → Bool) → List (Bool × A) → Type 0
@@ -38,8 +28,3 @@ none-holds accepts ((true, a) ∷ rest) other r e = absurd (true≢false (sym e 
 none-holds accepts ((false, a) ∷ rest) other r e =
     let q = none-holds accepts rest other (r .1) e in
     ((refl, q .0), q .1)
-
--- where one test or another fails, each fails
-pub neither : (a b : Bool) → (a || b) ≡ false → (a ≡ false) × (b ≡ false)
-neither true b e = (e, absurd (true≢false e))
-neither false b e = (refl, e)

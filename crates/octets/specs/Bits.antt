@@ -1,9 +1,5 @@
 -- The bits of a number, counted from 0 at the low end, and values listed by number.
-use Prim.Native.Nat.{ℕ, _-_, _*_, _/_, _%_, _^_}
-use mathlib.Core.Bool.{Bool, true, false, cond}
-use mathlib.Core.List.{List, [], _∷_}
-use lib.Dec.{eqb}
-use lib.ListN.{getD, set}
+use Rattle.octets.specs.Words.{ℕ, _-_, _*_, _/_, _%_, _^_, Bool, true, false, cond, List, [], _∷_, eqb, getD, set}
 
 -- the count bits of w from bit at on, as a number
 abbrev pub bits : ℕ → ℕ → ℕ → ℕ

@@ -1,3 +1,4 @@
+pub mod Words
 pub mod Little
 pub mod Buffer
 pub mod Bits

@@ -1,14 +1,9 @@
--- Parts that can only be refused with 1, "input ends, or room ends, before the part at hand is complete" (document 01, "Refusal numbers").
-use Prim.Native.Nat.{ℕ, _-_}
-use mathlib.Core.Bool.{Bool}
-use mathlib.Core.List.{List, [], _∷_}
-use lib.Dec.{ltb}
-use lib.ListN.{length}
-use Rattle.octets.specs.declared.Outcome.{Outcome}
-use Rattle.octets.specs.declared.PartWritten.{PartWritten}
-use Rattle.octets.specs.declared.PartWritten.the-variants.{Written, Full}
-use Rattle.octets.specs.Order.{first}
-use Rattle.octets.specs.Outcome.{accepted, refused}
+-- Parts that can only be refused with 1, "input ends, or room ends, before the part at hand is complete" (document 01,
+-- "Refusal numbers").
+use Rattle.octets.specs.Words.{ℕ, _-_, Bool, List, [], _∷_, ltb, length}
+use Rattle.octets.specs.declared.{Outcome.Outcome, PartWritten.PartWritten, PartWritten.the-variants.Written}
+use Rattle.octets.specs.declared.{PartWritten.the-variants.Full}
+use Rattle.octets.specs.{Order.first, Outcome.accepted, Outcome.refused}
 
 -- fewer than n bytes of s are left from at on
 abbrev pub ends : List ℕ → ℕ → ℕ → Bool

@@ -1,9 +1,6 @@
 -- A store into a buffer, and the place behind it.
-use Prim.Native.Nat.{ℕ, _+_}
-use mathlib.Core.List.{List}
-use mathlib.Core.Path.{_≡_}
-use lib.ListN.{length}
-use Rattle.octets.specs.Buffer.{laid}
+use Rattle.octets.specs.Words.{ℕ, _+_, List, _≡_, length}
+use Rattle.octets.specs.{Buffer.laid}
 
 -- o is the buffer l with b stored from a place on, and r is the place behind it
 pub record Stored (l : List ℕ) (at : ℕ) (b o : List ℕ) (r : ℕ) : Type 0 where

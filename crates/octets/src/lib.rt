@@ -1,10 +1,9 @@
-// Little-endian numbers at a place of a slice, read and stored, and what an answer says in document 01's numbers.
-// The functions that ask for room (`requires`) are building blocks of this project's readers and writers, which measure first.
-ghost use mathlib.Core.Path.{_≡_};
-ghost use Prim.Native.Nat.{_+_, _-_, _≤_, _<_};
-ghost use lib.ListN.{length};
+// Little-endian numbers at a place of a slice, read and stored, and what an answer says in document 01's numbers. The
+// functions that ask for room (`requires`) are building blocks of this project's readers and writers, which measure
+// first.
+ghost use Rattle.octets.specs.Words.{_+_, _-_, _≤_, _<_, min, _≡_, length};
 ghost use Rattle.octets.specs.Bits.{bitOf};
-ghost use Rattle.octets.specs.Buffer.{laid, after};
+ghost use Rattle.octets.specs.Buffer.{laid, after, fitting};
 ghost use Rattle.octets.specs.Little.{split, number};
 ghost use Rattle.octets.specs.Outcome.{accepted, refused};
 ghost use Rattle.octets.specs.Part.{writePart, partOutcome};
@@ -43,14 +42,8 @@ impl PartWritten {
         ensures { λ r. ⌜ r ≡ partOutcome self ⌝ }
     {
         match self {
-            PartWritten::Written(n) => Outcome {
-                number: 0,
-                length: n,
-            },
-            PartWritten::Full => Outcome {
-                number: 1,
-                length: 0,
-            },
+            PartWritten::Written(n) => Outcome::accepted(n),
+            PartWritten::Full => Outcome::refused(1),
         }
     }
 }
@@ -67,18 +60,9 @@ impl ValueWritten {
         ensures { λ r. ⌜ r ≡ valueOutcome self ⌝ }
     {
         match self {
-            ValueWritten::Written(n) => Outcome {
-                number: 0,
-                length: n,
-            },
-            ValueWritten::TooLarge => Outcome {
-                number: 8,
-                length: 0,
-            },
-            ValueWritten::Full => Outcome {
-                number: 1,
-                length: 0,
-            },
+            ValueWritten::Written(n) => Outcome::accepted(n),
+            ValueWritten::TooLarge => Outcome::refused(8),
+            ValueWritten::Full => Outcome::refused(1),
         }
     }
 }
@@ -92,13 +76,15 @@ pub fn left(s: &[u8], at: usize) -> usize
 
 // A flag as one bit.
 pub fn bit_of(flag: bool) -> u8
-    ensures { λ r. ⌜ (r ≡ bitOf flag) × (r ≤ 1) ⌝ }
+    ensures { λ r. ⌜ r ≡ bitOf flag ⌝ }
+    ensures { λ r. ⌜ r ≤ 1 ⌝ }
 {
     if flag { 1 } else { 0 }
 }
 
 fn wide(b: u8) -> u16
-    ensures { λ r. ⌜ (r ≡ b) × (r < 256) ⌝ }
+    ensures { λ r. ⌜ r ≡ b ⌝ }
+    ensures { λ r. ⌜ r < 256 ⌝ }
 {
     b as u16
 }
@@ -136,9 +122,10 @@ pub fn u64_at(s: &[u8], at: usize) -> u64
 }
 
 // Stores the n low bytes of v from at on, the lowest first, and returns the place behind them. Asks for that room.
-pub fn put(out: &mut [u8], at: usize, n: usize, v: u64) -> usize
+pub fn put(v: u64, n: usize, out: &mut [u8], at: usize) -> usize
     requires { ⌜ n ≤ length (now out) - at ⌝ }
-    ensures { λ r. ⌜ (r ≡ at + n) × (now (out .exit) ≡ laid (now (out .entry)) at (split n v)) ⌝ }
+    ensures { λ r. ⌜ r ≡ at + n ⌝ }
+    ensures { λ r. ⌜ now (out .exit) ≡ laid (now (out .entry)) at (split n v) ⌝ }
 {
     let mut rest = v;
     let mut i = 0;
@@ -151,12 +138,34 @@ pub fn put(out: &mut [u8], at: usize, n: usize, v: u64) -> usize
 }
 
 // Writes the n low bytes of v at a place, the lowest first, or nothing where they have no room.
-pub fn write_number(out: &mut [u8], at: usize, n: usize, v: u64) -> PartWritten
-    ensures { λ r. ⌜ (r ≡ writePart (now (out .entry)) at n) × (now (out .exit) ≡ after (partOutcome r) (now (out .entry)) at (split n v)) ⌝ }
+pub fn write_number(v: u64, n: usize, out: &mut [u8], at: usize) -> PartWritten
+    ensures { λ r. ⌜ r ≡ writePart (now (out .entry)) at n ⌝ }
+    ensures { λ r. ⌜ now (out .exit) ≡ after (partOutcome r) (now (out .entry)) at (split n v) ⌝ }
 {
     if left(out, at) < n {
         return PartWritten::Full;
     }
-    put(out, at, n, v);
+    put(v, n, out, at);
     PartWritten::Written(n)
+}
+
+// The lesser of two numbers.
+pub fn least(a: usize, b: usize) -> usize
+    ensures { λ r. ⌜ r ≡ min a b ⌝ }
+{
+    if a < b { a } else { b }
+}
+
+// Stores s from a place of out on, as much of it as has room, and returns the place behind it.
+pub fn copy(s: &[u8], out: &mut [u8], at: usize) -> usize
+    ensures { λ r. ⌜ r ≡ at + length (fitting (now (out .entry)) at (now (s .entry))) ⌝ }
+    ensures { λ r. ⌜ now (out .exit) ≡ laid (now (out .entry)) at (fitting (now (out .entry)) at (now (s .entry))) ⌝ }
+{
+    let end = least(s.len(), left(out, at));
+    let mut i = 0;
+    while i < end {
+        out[at + i] = s[i];
+        i += 1;
+    }
+    at + end
 }

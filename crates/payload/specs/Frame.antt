@@ -1,21 +1,14 @@
--- The payload view, document 01: "reads a header and, for an unsecured Beacon, the beacon, then hands back the rest of the caller's slice. On
--- refusal, of header or beacon, that number and the slice's empty beginning. A secured beacon's content is not read."
-use Prim.Native.Nat.{ℕ, _+_}
-use mathlib.Core.Bool.{Bool, false, cond}
-use mathlib.Core.List.{List, []}
-use lib.Dec.{eqb}
-use lib.ListN.{drop}
-use Rattle.octets.specs.declared.Outcome.{Outcome}
-use Rattle.octets.specs.Outcome.{accepted, refused}
-use Rattle.frame_control.specs.Types.{typeBits}
-use Rattle.header.specs.declared.Header.{Header}
-use Rattle.header.specs.declared.HeaderRead.{HeaderRead}
+-- The payload view, document 01: "reads a header and, for an unsecured Beacon, the beacon, then hands back the rest of
+-- the caller's slice. On refusal, of header or beacon, that number and the slice's empty beginning. A secured beacon's
+-- content is not read."
+use Rattle.octets.specs.Words.{ℕ, _+_, Bool, false, cond, List, [], eqb, drop}
+use Rattle.octets.specs.{declared.Outcome.Outcome, Outcome.accepted, Outcome.refused}
+use Rattle.frame_control.specs.{Types.typeBits}
+use Rattle.header.specs.{declared.Header.Header, declared.HeaderRead.HeaderRead, Record.secured, Read.readHeader}
+use Rattle.header.specs.{Read.readNumber}
 use Rattle.header.specs.declared.HeaderRead.the-variants.{Read, Refused}
-use Rattle.header.specs.Record.{secured}
-use Rattle.header.specs.Read.{readHeader, readNumber}
-use Rattle.beacon.specs.declared.BeaconRead.{BeaconRead}
-use Rattle.beacon.specs.Beacon.{emptyBeacon, readBeacon}
-use Rattle.payload.specs.declared.FrameRead.{FrameRead}
+use Rattle.beacon.specs.{declared.BeaconRead.BeaconRead, Beacon.emptyBeacon, Beacon.readBeacon}
+use Rattle.payload.specs.{declared.FrameRead.FrameRead}
 
 -- an unsecured frame of type 0
 abbrev pub opens : Header → Bool

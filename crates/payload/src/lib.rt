@@ -1,7 +1,6 @@
-// The payload of a frame: what follows its header and, of an unsecured beacon, its content, as a part of the caller's own slice.
-ghost use mathlib.Core.Path.{_≡_};
-ghost use Prim.Native.Nat.{_≤_};
-ghost use lib.ListN.{length};
+// The payload of a frame: what follows its header and, of an unsecured beacon, its content, as a part of the caller's
+// own slice.
+ghost use Rattle.octets.specs.Words.{_≤_, _≡_, length};
 ghost use Rattle.beacon.specs.Beacon.{readBeacon};
 ghost use Rattle.payload.specs.Frame.{opens, unread, frameOf, behindBeacon, readFrame, payloadOf};
 use beacon::Beacon;
@@ -10,8 +9,8 @@ use header::Header;
 use header::HeaderRead;
 use octets::Outcome;
 
-// What a frame says. The outcome's length is the place where the payload begins; the beacon is looked at only in an unsecured beacon frame, and
-// is the empty one of length 0 in any other.
+// What a frame says. The outcome's length is the place where the payload begins; the beacon is looked at only in an
+// unsecured beacon frame, and is the empty one of length 0 in any other.
 pub struct FrameRead {
     pub outcome: Outcome,
     pub header: HeaderRead,
@@ -89,9 +88,11 @@ pub fn read(frame: &[u8]) -> FrameRead
     without_beacon(header.outcome(), header)
 }
 
-// The payload, a part of the frame with no byte copied, and the refusal number, 0 where there is none; of a refused frame its empty beginning.
+// The payload, a part of the frame with no byte copied, and the refusal number, 0 where there is none; of a refused
+// frame its empty beginning.
 pub fn payload<'a>(frame: &'a [u8], number: &mut u8) -> &'a [u8]
-    ensures { λ r. ⌜ (now r ≡ payloadOf (readFrame (now (frame .entry)) .outcome) (now (frame .entry))) × (now (number .exit) ≡ readFrame (now (frame .entry)) .outcome .number) ⌝ }
+    ensures { λ r. ⌜ now r ≡ payloadOf (readFrame (now (frame .entry)) .outcome) (now (frame .entry)) ⌝ }
+    ensures { λ r. ⌜ now (number .exit) ≡ readFrame (now (frame .entry)) .outcome .number ⌝ }
 {
     let view = read(frame);
     let outcome = view.outcome;

@@ -9,7 +9,7 @@ use borrow.Author.Tests.{ltb-false}
 use lib.ListN.{length}
 use Rattle.octets.specs.Outcome.{accepted}
 use Rattle.octets.specs.Part.{ends}
-use Rattle.octets.proofs.Order.{cases, holds?, neither}
+use Rattle.octets.proofs.Cases.{cases, holds?, neither}
 use Rattle.pending.specs.declared.PendingAddress.{PendingAddress}
 use Rattle.pending.specs.Pending.{pendingIn, pendingLengthIn, readPending, pendingTooLarge}
 

@@ -1,11 +1,7 @@
-// The pending addresses of a beacon, of devices for which the coordinator holds messages: a header with two counts, then the short addresses
-// and then the extended ones.
-// The functions that ask something (`requires`) are building blocks of this project's readers and writers, which measure first.
-ghost use mathlib.Core.Path.{_≡_};
-ghost use mathlib.Core.Bool.{false};
-ghost use mathlib.Core.List.{_++_, flatMap};
-ghost use Prim.Native.Nat.{_+_, _-_, _*_, _≤_};
-ghost use lib.ListN.{length, take};
+// The pending addresses of a beacon, of devices for which the coordinator holds messages: a header with two counts,
+// then the short addresses and then the extended ones. The functions that ask something (`requires`) are building
+// blocks of this project's readers and writers, which measure first.
+ghost use Rattle.octets.specs.Words.{_+_, _-_, _*_, _≤_, false, _++_, flatMap, _≡_, length, take};
 ghost use Rattle.octets.specs.Buffer.{laid, after};
 ghost use Rattle.octets.specs.Value.{valueOutcome};
 ghost use Rattle.pending.specs.Addresses.{shortsIn, extendedsIn, shortBytes, extendedBytes};
@@ -22,7 +18,8 @@ use octets::u64_at;
 
 // The n short addresses at a place, and broadcast ones behind them. Asks that they are there and at most seven.
 pub fn shorts_at(s: &[u8], at: usize, n: usize) -> [ShortAddress; 7]
-    requires { ⌜ (n ≤ 7) × (at + 2 * n ≤ length (now s)) ⌝ }
+    requires { ⌜ n ≤ 7 ⌝ }
+    requires { ⌜ at + 2 * n ≤ length (now s) ⌝ }
     ensures { λ r. ⌜ r ≡ shortsIn (now (s .entry)) at n ⌝ }
 {
     let mut addresses = [ShortAddress::BROADCAST; 7];
@@ -36,7 +33,8 @@ pub fn shorts_at(s: &[u8], at: usize, n: usize) -> [ShortAddress; 7]
 
 // The n extended addresses at a place, and broadcast ones behind them. Asks that they are there and at most seven.
 pub fn extendeds_at(s: &[u8], at: usize, n: usize) -> [ExtendedAddress; 7]
-    requires { ⌜ (n ≤ 7) × (at + 8 * n ≤ length (now s)) ⌝ }
+    requires { ⌜ n ≤ 7 ⌝ }
+    requires { ⌜ at + 8 * n ≤ length (now s) ⌝ }
     ensures { λ r. ⌜ r ≡ extendedsIn (now (s .entry)) at n ⌝ }
 {
     let mut addresses = [ExtendedAddress::BROADCAST; 7];
@@ -48,29 +46,35 @@ pub fn extendeds_at(s: &[u8], at: usize, n: usize) -> [ExtendedAddress; 7]
     addresses
 }
 
-// Stores the first n short addresses side by side and returns the place behind them. Asks for at most seven, and for that room.
+// Stores the first n short addresses side by side and returns the place behind them. Asks for at most seven, and for
+// that room.
 fn put_shorts(addresses: [ShortAddress; 7], n: usize, out: &mut [u8], at: usize) -> usize
-    requires { ⌜ (n ≤ 7) × (2 * n ≤ length (now out) - at) ⌝ }
-    ensures { λ r. ⌜ (r ≡ at + 2 * n) × (now (out .exit) ≡ laid (now (out .entry)) at (flatMap shortBytes (take n addresses))) ⌝ }
+    requires { ⌜ n ≤ 7 ⌝ }
+    requires { ⌜ 2 * n ≤ length (now out) - at ⌝ }
+    ensures { λ r. ⌜ r ≡ at + 2 * n ⌝ }
+    ensures { λ r. ⌜ now (out .exit) ≡ laid (now (out .entry)) at (flatMap shortBytes (take n addresses)) ⌝ }
 {
     let mut k = 0;
     while k < n {
         let address = addresses[k];
-        put(out, at + 2 * k, 2, address.0 as u64);
+        put(address.0 as u64, 2, out, at + 2 * k);
         k += 1;
     }
     at + 2 * n
 }
 
-// Stores the first n extended addresses side by side and returns the place behind them. Asks for at most seven, and for that room.
+// Stores the first n extended addresses side by side and returns the place behind them. Asks for at most seven, and for
+// that room.
 fn put_extendeds(addresses: [ExtendedAddress; 7], n: usize, out: &mut [u8], at: usize) -> usize
-    requires { ⌜ (n ≤ 7) × (8 * n ≤ length (now out) - at) ⌝ }
-    ensures { λ r. ⌜ (r ≡ at + 8 * n) × (now (out .exit) ≡ laid (now (out .entry)) at (flatMap extendedBytes (take n addresses))) ⌝ }
+    requires { ⌜ n ≤ 7 ⌝ }
+    requires { ⌜ 8 * n ≤ length (now out) - at ⌝ }
+    ensures { λ r. ⌜ r ≡ at + 8 * n ⌝ }
+    ensures { λ r. ⌜ now (out .exit) ≡ laid (now (out .entry)) at (flatMap extendedBytes (take n addresses)) ⌝ }
 {
     let mut k = 0;
     while k < n {
         let address = addresses[k];
-        put(out, at + 8 * k, 8, address.0);
+        put(address.0, 8, out, at + 8 * k);
         k += 1;
     }
     at + 8 * n
@@ -85,8 +89,11 @@ fn put_lists(
     out: &mut [u8],
     at: usize,
 ) -> usize
-    requires { ⌜ (m ≤ 7) × ((n ≤ 7) × (addressesLength m n ≤ length (now out) - at)) ⌝ }
-    ensures { λ r. ⌜ (r ≡ at + addressesLength m n) × (now (out .exit) ≡ laid (now (out .entry)) at (flatMap shortBytes (take m shorts) ++ flatMap extendedBytes (take n extendeds))) ⌝ }
+    requires { ⌜ m ≤ 7 ⌝ }
+    requires { ⌜ n ≤ 7 ⌝ }
+    requires { ⌜ addressesLength m n ≤ length (now out) - at ⌝ }
+    ensures { λ r. ⌜ r ≡ at + addressesLength m n ⌝ }
+    ensures { λ r. ⌜ now (out .exit) ≡ laid (now (out .entry)) at (flatMap shortBytes (take m shorts) ++ flatMap extendedBytes (take n extendeds)) ⌝ }
 {
     let next = put_shorts(shorts, m, out, at);
     put_extendeds(extendeds, n, out, next)
@@ -176,7 +183,8 @@ impl PendingAddress {
     // How many bytes it is written in. Asks that no count is too large.
     pub fn size(self) -> usize
         requires { ⌜ pendingTooLarge self ≡ false ⌝ }
-        ensures { λ r. ⌜ (r ≡ pendingSize self) × (r ≤ 71) ⌝ }
+        ensures { λ r. ⌜ r ≡ pendingSize self ⌝ }
+        ensures { λ r. ⌜ r ≤ 71 ⌝ }
     {
         1 + (2 * self.short_address_count + 8 * self.extended_address_count)
     }
@@ -191,13 +199,15 @@ impl PendingAddress {
 
     // Stores it and returns the place behind it. Asks that no count is too large, and for that room.
     pub fn put(self, out: &mut [u8], at: usize) -> usize
-        requires { ⌜ (pendingTooLarge self ≡ false) × (pendingSize self ≤ length (now out) - at) ⌝ }
-        ensures { λ r. ⌜ (r ≡ at + pendingSize self) × (now (out .exit) ≡ laid (now (out .entry)) at (pendingBytes self)) ⌝ }
+        requires { ⌜ pendingTooLarge self ≡ false ⌝ }
+        requires { ⌜ pendingSize self ≤ length (now out) - at ⌝ }
+        ensures { λ r. ⌜ r ≡ at + pendingSize self ⌝ }
+        ensures { λ r. ⌜ now (out .exit) ≡ laid (now (out .entry)) at (pendingBytes self) ⌝ }
     {
         let shorts = self.short_addresses;
         let extendeds = self.extended_addresses;
         let header = self.header();
-        let next = put(out, at, 1, header as u64);
+        let next = put(header as u64, 1, out, at);
         put_lists(
             shorts,
             self.short_address_count,
@@ -209,7 +219,8 @@ impl PendingAddress {
     }
 
     pub fn write(self, out: &mut [u8], at: usize) -> ValueWritten
-        ensures { λ r. ⌜ (r ≡ writePending self (now (out .entry)) at) × (now (out .exit) ≡ after (valueOutcome r) (now (out .entry)) at (pendingBytes self)) ⌝ }
+        ensures { λ r. ⌜ r ≡ writePending self (now (out .entry)) at ⌝ }
+        ensures { λ r. ⌜ now (out .exit) ≡ after (valueOutcome r) (now (out .entry)) at (pendingBytes self) ⌝ }
     {
         if self.too_large() {
             return ValueWritten::TooLarge;

@@ -1,48 +1,32 @@
--- Document 01, "Frames to try", rows P1 to P13: what reading a header, a beacon or a GTS field answers, its record, its lengths, and what writing
--- it again gives.
-use Prim.Native.Nat.{ℕ}
-use mathlib.Core.Bool.{Bool, true, false, cond}
-use mathlib.Core.List.{List, [], _∷_}
-use lib.Dec.{eqb}
-use lib.ListN.{replicate}
-use Rattle.octets.specs.declared.Outcome.{Outcome}
-use Rattle.octets.specs.Outcome.{accepted, refused}
-use Rattle.octets.specs.Value.{valueOutcome}
-use Rattle.frame_control.specs.declared.FrameType.{FrameType}
-use Rattle.frame_control.specs.declared.FrameType.the-variants as Kind
+-- Document 01, "Frames to try", rows P1 to P13: what reading a header, a beacon or a GTS field answers, its record, its
+-- lengths, and what writing it again gives.
+use Rattle.octets.specs.Words.{ℕ, Bool, true, false, cond, List, [], _∷_, eqb, replicate}
+use Rattle.key_identifier.specs.{declared.OptionalKeySource.OptionalKeySource, Key.keyOf}
+use Rattle.octets.specs.{declared.Outcome.Outcome, Outcome.accepted, Outcome.refused, Value.valueOutcome}
+use Rattle.frame_control.specs.{declared.FrameType.FrameType}
 use Rattle.frame_control.specs.declared.FrameVersion.the-variants.{Ieee802154_2003}
-use Rattle.identifiers.specs.PanId.{pan}
-use Rattle.identifiers.specs.ShortAddress.{short}
+use Rattle.identifiers.specs.{PanId.pan, ShortAddress.short}
+use Rattle.address.specs.{declared.OptionalAddress.OptionalAddress}
 use Rattle.address.specs.declared.Address.the-variants.{Short}
-use Rattle.address.specs.declared.OptionalAddress.{OptionalAddress}
-use Rattle.address.specs.declared.OptionalAddress.the-variants as Address
+use Rattle.security_control.specs.{Control.controlOf}
 use Rattle.security_control.specs.declared.KeyIdentifierMode.the-variants.{KeyIndex}
-use Rattle.security_control.specs.Control.{controlOf}
-use Rattle.key_identifier.specs.declared.OptionalKeySource.the-variants as Source
-use Rattle.key_identifier.specs.Key.{keyOf}
-use Rattle.security.specs.declared.OptionalSecurityHeader.{OptionalSecurityHeader}
-use Rattle.security.specs.declared.OptionalSecurityHeader.the-variants as Security
-use Rattle.security.specs.Optional.{counterRead}
-use Rattle.security.specs.Security.{securityOf}
-use Rattle.header.specs.declared.Header.{Header}
-use Rattle.header.specs.declared.HeaderRead.{HeaderRead}
+use Rattle.security.specs.{declared.OptionalSecurityHeader.OptionalSecurityHeader, Optional.counterRead}
+use Rattle.security.specs.{Security.securityOf}
+use Rattle.header.specs.{declared.Header.Header, declared.HeaderRead.HeaderRead, Record.octetSize, Read.readHeader}
+use Rattle.header.specs.{Read.readNumber, Write.writeHeader, Write.writtenOutcome}
 use Rattle.header.specs.declared.HeaderRead.the-variants.{Read, Refused}
-use Rattle.header.specs.Record.{octetSize}
-use Rattle.header.specs.Read.{readHeader, readNumber}
-use Rattle.header.specs.Write.{writeHeader, writtenOutcome}
-use Rattle.header_facts.specs.RoundTrip.{rewritten}
+use Rattle.header_facts.specs.{RoundTrip.rewritten}
+use Rattle.superframe.specs.{declared.SuperframeSpecification.SuperframeSpecification}
 use Rattle.superframe.specs.declared.BeaconOrder.the-variants.{BeaconOrder}
 use Rattle.superframe.specs.declared.SuperframeOrder.the-variants.{SuperframeOrder}
-use Rattle.superframe.specs.declared.SuperframeSpecification.{SuperframeSpecification}
+use Rattle.time_slot.specs.{Descriptor.descriptorOf, Descriptor.emptyDescriptor}
 use Rattle.time_slot.specs.declared.Direction.the-variants.{Transmit}
-use Rattle.time_slot.specs.Descriptor.{descriptorOf, emptyDescriptor}
-use Rattle.time_slots.specs.declared.GuaranteedTimeSlotInformation.{GuaranteedTimeSlotInformation}
-use Rattle.time_slots.specs.declared.TimeSlotsRead.{TimeSlotsRead}
-use Rattle.time_slots.specs.TimeSlots.{timeSlotsOf, readTimeSlots, timeSlotsBytes, writeTimeSlots}
-use Rattle.pending.specs.Pending.{emptyPending}
-use Rattle.beacon.specs.declared.Beacon.{Beacon}
-use Rattle.beacon.specs.declared.BeaconRead.{BeaconRead}
-use Rattle.beacon.specs.Beacon.{beaconOf, readBeacon, beaconBytes, writeBeacon}
+use Rattle.time_slots.specs.{declared.GuaranteedTimeSlotInformation.GuaranteedTimeSlotInformation}
+use Rattle.time_slots.specs.{declared.TimeSlotsRead.TimeSlotsRead, TimeSlots.timeSlotsOf, TimeSlots.readTimeSlots}
+use Rattle.time_slots.specs.{TimeSlots.timeSlotsBytes, TimeSlots.writeTimeSlots}
+use Rattle.pending.specs.{Pending.emptyPending}
+use Rattle.beacon.specs.{declared.Beacon.Beacon, declared.BeaconRead.BeaconRead, Beacon.beaconOf, Beacon.readBeacon}
+use Rattle.beacon.specs.{Beacon.beaconBytes, Beacon.writeBeacon}
 
 -- what is asked for: the header, the beacon or the GTS field at the beginning of bytes
 pub data Asked : Type 0 where
@@ -50,8 +34,8 @@ pub data Asked : Type 0 where
   beacon? : List ℕ → Asked
   slots? : List ℕ → Asked
 
--- what is to be seen of an answer: a refusal's number; or the record, its length, of a header also the Rust crate's number, and the answer and the
--- bytes of writing it again into a buffer of its length
+-- what is to be seen of an answer: a refusal's number; or the record, its length, of a header also the Rust crate's
+-- number, and the answer and the bytes of writing it again into a buffer of its length
 pub data Seen : Type 0 where
   refusal : ℕ → Seen
   header : Header → (length octets : ℕ) → Outcome → List ℕ → Seen
@@ -109,7 +93,7 @@ plain kind compress suppress elements seq destination source security =
     }
 
 abbrev pub at16 : ℕ → ℕ → OptionalAddress
-at16 p a = Address.Present (Short (pan p) (short a))
+at16 p a = OptionalAddress.Present (Short (pan p) (short a))
 
 abbrev pub p7 : List ℕ
 p7 = 0x41 ∷ 0x88 ∷ 0x07 ∷ 0x34 ∷ 0x12 ∷ 0x01 ∷ 0x00 ∷ 0x02 ∷ 0x00 ∷ []
@@ -139,7 +123,7 @@ rows =
     -- P2
     (
       header? (0x00 ∷ 0x00 ∷ 0x05 ∷ []),
-      header (plain Kind.Beacon false false false 5 Address.Absent Address.Absent Security.Absent) 3 3 (accepted 3) (0x00 ∷ 0x00 ∷ 0x05 ∷ []),
+      header (plain FrameType.Beacon false false false 5 OptionalAddress.Absent OptionalAddress.Absent OptionalSecurityHeader.Absent) 3 3 (accepted 3) (0x00 ∷ 0x00 ∷ 0x05 ∷ []),
     ) ∷
     -- P3: version 3, though type 4 too
     (header? (0x04 ∷ 0x30 ∷ 0x00 ∷ []), refusal 2) ∷
@@ -150,23 +134,23 @@ rows =
     -- P6: compression without a destination, though no source bytes follow
     (header? (0x41 ∷ 0x80 ∷ 0x00 ∷ []), refusal 5) ∷
     -- P7: nine bytes, where the Rust crate's number is 11
-    (header? p7, header (plain Kind.Data true false false 7 (at16 0x1234 1) (at16 0x1234 2) Security.Absent) 9 11 (accepted 9) p7) ∷
+    (header? p7, header (plain FrameType.Data true false false 7 (at16 0x1234 1) (at16 0x1234 2) OptionalSecurityHeader.Absent) 9 11 (accepted 9) p7) ∷
     -- P8: P7 less its last byte
     (header? (0x41 ∷ 0x88 ∷ 0x07 ∷ 0x34 ∷ 0x12 ∷ 0x01 ∷ 0x00 ∷ 0x02 ∷ []), refusal 1) ∷
     -- P9: compression without a source is read, and writing it is refused with 6
     (
       header? (0x41 ∷ 0x08 ∷ 0x07 ∷ 0x34 ∷ 0x12 ∷ 0x01 ∷ 0x00 ∷ []),
-      header (plain Kind.Data true false false 7 (at16 0x1234 1) Address.Absent Security.Absent) 7 7 (refused 6) [],
+      header (plain FrameType.Data true false false 7 (at16 0x1234 1) OptionalAddress.Absent OptionalSecurityHeader.Absent) 7 7 (refused 6) [],
     ) ∷
     -- P10: bits 7, 8 and 9 set, rewritten as P7
     (
       header? (0xC1 ∷ 0x8B ∷ 0x07 ∷ 0x34 ∷ 0x12 ∷ 0x01 ∷ 0x00 ∷ 0x02 ∷ 0x00 ∷ []),
-      header (plain Kind.Data true true true 7 (at16 0x1234 1) (at16 0x1234 2) Security.Absent) 9 11 (accepted 9) p7,
+      header (plain FrameType.Data true true true 7 (at16 0x1234 1) (at16 0x1234 2) OptionalSecurityHeader.Absent) 9 11 (accepted 9) p7,
     ) ∷
     -- P11: security control bits 5 to 7 set, rewritten with 0D for ED
     (
       header? (0x09 ∷ 0x00 ∷ 0x01 ∷ 0xED ∷ 0x01 ∷ 0x00 ∷ 0x00 ∷ 0x00 ∷ 0x07 ∷ []),
-      header (plain Kind.Data false false false 1 Address.Absent Address.Absent (Security.Present (securityOf (controlOf 5 KeyIndex) 1 (keyOf Source.Absent 7)))) 9 3 (accepted 9)
+      header (plain FrameType.Data false false false 1 OptionalAddress.Absent OptionalAddress.Absent (OptionalSecurityHeader.Present (securityOf (controlOf 5 KeyIndex) 1 (keyOf OptionalKeySource.Absent 7)))) 9 3 (accepted 9)
           (0x09 ∷ 0x00 ∷ 0x01 ∷ 0x0D ∷ 0x01 ∷ 0x00 ∷ 0x00 ∷ 0x00 ∷ 0x07 ∷ []),
     ) ∷
     -- P12: one direction bit of a slot that is there, seven of slots that are not

@@ -1,4 +1,5 @@
-// Rows 14 and 15 of document 01, run: the row, the refusal number, the length and, for a beacon, the two cases that 15 stands for.
+// Rows 14 and 15 of document 01, run: the row, the refusal number, the length and, for a beacon, the two cases that 15
+// stands for.
 use beacon::Beacon;
 use octets::Outcome;
 use pending::PendingAddress;

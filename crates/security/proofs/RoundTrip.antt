@@ -11,7 +11,7 @@ use lib.Dec.{ltb}
 use lib.ListN.{length, length-append}
 use Rattle.octets.specs.Little.{Bytes}
 use Rattle.octets.specs.Part.{ends}
-use Rattle.octets.proofs.Order.{cases, holds?}
+use Rattle.octets.proofs.Cases.{cases, holds?}
 use Rattle.security_control.specs.declared.KeyIdentifierMode.{KeyIdentifierMode}
 use Rattle.security_control.specs.declared.KeyIdentifierMode.the-variants as Mode
 use Rattle.security.specs.declared.AuxiliarySecurityHeader.{AuxiliarySecurityHeader}

@@ -1,18 +1,13 @@
--- What reading and writing a security header answers: reading only 1; writing 8, then 7, then 1 (document 01, "Refusal numbers").
-use Prim.Native.Nat.{ℕ}
-use mathlib.Core.List.{List, [], _∷_}
-use lib.Dec.{ltb}
-use Rattle.octets.specs.declared.Outcome.{Outcome}
-use Rattle.octets.specs.Order.{first}
-use Rattle.octets.specs.Outcome.{accepted, refused}
-use Rattle.octets.specs.Part.{ends}
-use Rattle.security.specs.Optional.{missing}
-use Rattle.security.specs.Security.{lengthIn, securityIn, levelOf, securityLength}
-use Rattle.security.specs.declared.AuxiliarySecurityHeader.{AuxiliarySecurityHeader}
-use Rattle.security.specs.declared.OptionalCounter.{OptionalCounter}
-use Rattle.security.specs.declared.SecurityHeaderRead.{SecurityHeaderRead}
+-- What reading and writing a security header answers: reading only 1; writing 8, then 7, then 1 (document 01, "Refusal
+-- numbers").
+use Rattle.octets.specs.Words.{ℕ, List, [], _∷_, ltb}
+use Rattle.octets.specs.{declared.Outcome.Outcome, Order.first, Outcome.accepted, Outcome.refused, Part.ends}
+use Rattle.security.specs.{declared.AuxiliarySecurityHeader.AuxiliarySecurityHeader}
+use Rattle.security.specs.{declared.OptionalCounter.OptionalCounter}
+use Rattle.security.specs.{declared.SecurityHeaderRead.SecurityHeaderRead}
+use Rattle.security.specs.{declared.SecurityHeaderWritten.SecurityHeaderWritten, Optional.missing}
+use Rattle.security.specs.{Security.lengthIn, Security.securityIn, Security.levelOf, Security.securityLength}
 use Rattle.security.specs.declared.SecurityHeaderRead.the-variants.{Read, Ended}
-use Rattle.security.specs.declared.SecurityHeaderWritten.{SecurityHeaderWritten}
 use Rattle.security.specs.declared.SecurityHeaderWritten.the-variants.{Written, TooLarge, MissingCounter, Full}
 
 unfoldable pub readSecurity : List ℕ → ℕ → SecurityHeaderRead

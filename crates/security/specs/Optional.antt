@@ -1,12 +1,8 @@
 -- What may be absent: a header's security part, and the counter that a writer is handed.
-use Prim.Native.Nat.{ℕ}
-use mathlib.Core.Bool.{Bool, true, false}
-use mathlib.Core.List.{List, []}
-use lib.Dec.{ltb}
-use Rattle.security.specs.Security.{levelOf, securityLength, securityBytes}
-use Rattle.security.specs.declared.OptionalCounter.{OptionalCounter}
-use Rattle.security.specs.declared.OptionalCounter.the-variants as Counter
-use Rattle.security.specs.declared.OptionalSecurityHeader.{OptionalSecurityHeader}
+use Rattle.octets.specs.Words.{ℕ, Bool, true, false, List, [], ltb}
+use Rattle.security.specs.{declared.OptionalCounter.OptionalCounter}
+use Rattle.security.specs.{declared.OptionalSecurityHeader.OptionalSecurityHeader, Security.levelOf}
+use Rattle.security.specs.{Security.securityLength, Security.securityBytes}
 use Rattle.security.specs.declared.OptionalSecurityHeader.the-variants.{Absent, Present}
 
 abbrev pub isPresent : OptionalSecurityHeader → Bool
@@ -28,15 +24,15 @@ optionalBytes Absent counter = []
 optionalBytes (Present k) counter = securityBytes k counter
 
 abbrev pub missing : OptionalCounter → Bool
-missing Counter.Absent = true
-missing (Counter.Present n) = false
+missing OptionalCounter.Absent = true
+missing (OptionalCounter.Present n) = false
 
 -- the counter that is written; with none, nothing is
 abbrev pub counterOf : OptionalCounter → ℕ
-counterOf Counter.Absent = 0
-counterOf (Counter.Present n) = n
+counterOf OptionalCounter.Absent = 0
+counterOf (OptionalCounter.Present n) = n
 
 -- the counter that was read with a security part
 abbrev pub counterRead : OptionalSecurityHeader → OptionalCounter
-counterRead Absent = Counter.Absent
-counterRead (Present k) = Counter.Present (k .«frame_counter»)
+counterRead Absent = OptionalCounter.Absent
+counterRead (Present k) = OptionalCounter.Present (k .«frame_counter»)

@@ -1,19 +1,17 @@
 -- Demand 3 for a security header: read, written again with the counter that was read, and read once more.
-use Prim.Native.Nat.{ℕ, _-_, _≤_}
-use mathlib.Core.List.{List, _++_}
-use mathlib.Core.Path.{_≡_}
-use lib.ListN.{length, take, drop}
-use Rattle.octets.specs.Bits.{clearAt}
-use Rattle.security_control.specs.Control.{controlOf}
-use Rattle.key_identifier.specs.Key.{modeOfKey}
-use Rattle.security.specs.Security.{securityOf, lengthIn, levelOf, securityBytes}
-use Rattle.security.specs.Answer.{readSecurity, writeSecurity}
-use Rattle.security.specs.declared.AuxiliarySecurityHeader.{AuxiliarySecurityHeader}
+use Rattle.octets.specs.Words.{ℕ, _-_, _≤_, List, _++_, _≡_, length, take, drop}
+use Rattle.octets.specs.{Bits.clearAt}
+use Rattle.security_control.specs.{Control.controlOf}
+use Rattle.key_identifier.specs.{Key.modeOfKey}
+use Rattle.security.specs.{declared.AuxiliarySecurityHeader.AuxiliarySecurityHeader, Security.securityOf}
+use Rattle.security.specs.{Security.lengthIn, Security.levelOf, Security.securityBytes, Answer.readSecurity}
+use Rattle.security.specs.{Answer.writeSecurity}
 use Rattle.security.specs.declared.OptionalCounter.the-variants.{Present}
 use Rattle.security.specs.declared.SecurityHeaderRead.the-variants.{Read}
 use Rattle.security.specs.declared.SecurityHeaderWritten.the-variants.{Written}
 
--- the bytes of the security header at a place, with control bits 5, 6, 7 cleared and no others (document 01, "Bits that writing clears")
+-- the bytes of the security header at a place, with control bits 5, 6, 7 cleared and no others (document 01, "Bits that
+-- writing clears")
 abbrev pub cleared : List ℕ → ℕ → List ℕ
 cleared s at = clearAt 0 5 3 (take (lengthIn s at) (drop at s))
 

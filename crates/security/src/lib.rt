@@ -1,8 +1,6 @@
-// The auxiliary security header: security control, frame counter, key identifier; read and written as a part of a slice at a place.
-// Functions with a `requires` are building blocks of this project's writers, which measure first.
-ghost use mathlib.Core.Path.{_≡_};
-ghost use Prim.Native.Nat.{_+_, _≤_};
-ghost use lib.ListN.{length};
+// The auxiliary security header: security control, frame counter, key identifier; read and written as a part of a slice
+// at a place. Functions with a `requires` are building blocks of this project's writers, which measure first.
+ghost use Rattle.octets.specs.Words.{_+_, _≤_, _≡_, length};
 ghost use Rattle.octets.specs.Buffer.{laid, after};
 ghost use Rattle.security.specs.Security.{securityOf, securityLength, writtenControl, securityBytes};
 ghost use Rattle.security.specs.Optional.{isPresent, levelTooLarge, optionalLength, optionalBytes, missing, counterOf, counterRead};
@@ -59,7 +57,8 @@ impl OptionalSecurityHeader {
     }
 
     pub fn octets(self) -> usize
-        ensures { λ r. ⌜ (r ≡ optionalLength self) × (r ≤ 14) ⌝ }
+        ensures { λ r. ⌜ r ≡ optionalLength self ⌝ }
+        ensures { λ r. ⌜ r ≤ 14 ⌝ }
     {
         match self {
             OptionalSecurityHeader::Absent => 0,
@@ -70,7 +69,8 @@ impl OptionalSecurityHeader {
     // Stores it, or nothing, with a counter at a place and returns the place behind it. Asks for its room.
     pub fn put(self, out: &mut [u8], at: usize, counter: u32) -> usize
         requires { ⌜ at + optionalLength self ≤ length (now out) ⌝ }
-        ensures { λ r. ⌜ (r ≡ at + optionalLength self) × (now (out .exit) ≡ laid (now (out .entry)) at (optionalBytes self counter)) ⌝ }
+        ensures { λ r. ⌜ r ≡ at + optionalLength self ⌝ }
+        ensures { λ r. ⌜ now (out .exit) ≡ laid (now (out .entry)) at (optionalBytes self counter) ⌝ }
     {
         match self {
             OptionalSecurityHeader::Absent => at,
@@ -187,7 +187,8 @@ impl AuxiliarySecurityHeader {
 
     // How many bytes it takes: 5, 6, 10 or 14, by the key identifier.
     pub fn get_octet_size(self) -> usize
-        ensures { λ r. ⌜ (r ≡ securityLength self) × (r ≤ 14) ⌝ }
+        ensures { λ r. ⌜ r ≡ securityLength self ⌝ }
+        ensures { λ r. ⌜ r ≤ 14 ⌝ }
     {
         let key = self.key_identifier;
         5 + key_octets(key.mode())
@@ -220,7 +221,8 @@ impl AuxiliarySecurityHeader {
 
     // The control byte as it is written: the level, and the mode of the key identifier.
     fn written_control(self) -> u8
-        ensures { λ r. ⌜ (r ≡ writtenControl self) × (r ≤ 31) ⌝ }
+        ensures { λ r. ⌜ r ≡ writtenControl self ⌝ }
+        ensures { λ r. ⌜ r ≤ 31 ⌝ }
     {
         let control = self.control;
         let key = self.key_identifier;
@@ -235,17 +237,19 @@ impl AuxiliarySecurityHeader {
     // Stores it with a counter at a place and returns the place behind it. Asks for its room.
     pub fn put(self, out: &mut [u8], at: usize, counter: u32) -> usize
         requires { ⌜ at + securityLength self ≤ length (now out) ⌝ }
-        ensures { λ r. ⌜ (r ≡ at + securityLength self) × (now (out .exit) ≡ laid (now (out .entry)) at (securityBytes self counter)) ⌝ }
+        ensures { λ r. ⌜ r ≡ at + securityLength self ⌝ }
+        ensures { λ r. ⌜ now (out .exit) ≡ laid (now (out .entry)) at (securityBytes self counter) ⌝ }
     {
-        let behind_control = put(out, at, 1, self.written_control() as u64);
-        let behind_counter = put(out, behind_control, 4, counter as u64);
+        let behind_control = put(self.written_control() as u64, 1, out, at);
+        let behind_counter = put(counter as u64, 4, out, behind_control);
         let key = self.key_identifier;
         put_key(out, behind_counter, key)
     }
 
     // The key mode comes from the key identifier, the counter from the caller: the record's own counter is not written.
     pub fn write(self, out: &mut [u8], at: usize, counter: OptionalCounter) -> SecurityHeaderWritten
-        ensures { λ r. ⌜ (r ≡ writeSecurity self counter (now (out .entry)) at) × (now (out .exit) ≡ after (writtenOutcome r) (now (out .entry)) at (securityBytes self (counterOf counter))) ⌝ }
+        ensures { λ r. ⌜ r ≡ writeSecurity self counter (now (out .entry)) at ⌝ }
+        ensures { λ r. ⌜ now (out .exit) ≡ after (writtenOutcome r) (now (out .entry)) at (securityBytes self (counterOf counter)) ⌝ }
     {
         let control = self.control;
         if 7 < control.security_level {

@@ -1,6 +1,5 @@
 // The security control byte: security level and key identifier mode.
-ghost use mathlib.Core.Path.{_≡_};
-ghost use Prim.Native.Nat.{_≤_};
+ghost use Rattle.octets.specs.Words.{_≤_, _≡_};
 ghost use Rattle.octets.specs.Buffer.{after};
 ghost use Rattle.octets.specs.Little.{split};
 ghost use Rattle.octets.specs.Value.{writeValue, valueOutcome};
@@ -32,7 +31,8 @@ impl KeyIdentifierMode {
     }
 
     pub fn to_bits(self) -> u8
-        ensures { λ r. ⌜ (r ≡ keyModeBits self) × (r ≤ 3) ⌝ }
+        ensures { λ r. ⌜ r ≡ keyModeBits self ⌝ }
+        ensures { λ r. ⌜ r ≤ 3 ⌝ }
     {
         match self {
             KeyIdentifierMode::None => 0,
@@ -96,7 +96,8 @@ impl SecurityControl {
 
     // The byte, of a level above 7 only its low three bits.
     pub fn to_bits(self) -> u8
-        ensures { λ r. ⌜ (r ≡ controlBits self) × (r ≤ 31) ⌝ }
+        ensures { λ r. ⌜ r ≡ controlBits self ⌝ }
+        ensures { λ r. ⌜ r ≤ 31 ⌝ }
     {
         let key_id_mode = self.key_id_mode;
         self.security_level % 8 + 8 * key_id_mode.to_bits()
@@ -113,7 +114,8 @@ impl SecurityControl {
 
     // Refuses a level above 7, then a place without room.
     pub fn write(self, out: &mut [u8], at: usize) -> ValueWritten
-        ensures { λ r. ⌜ (r ≡ writeValue (levelTooLarge self) (now (out .entry)) at 1) × (now (out .exit) ≡ after (valueOutcome r) (now (out .entry)) at (split 1 (controlBits self))) ⌝ }
+        ensures { λ r. ⌜ r ≡ writeValue (levelTooLarge self) (now (out .entry)) at 1 ⌝ }
+        ensures { λ r. ⌜ now (out .exit) ≡ after (valueOutcome r) (now (out .entry)) at (split 1 (controlBits self)) ⌝ }
     {
         if 7 < self.security_level {
             return ValueWritten::TooLarge;
@@ -121,7 +123,7 @@ impl SecurityControl {
         if left(out, at) < 1 {
             return ValueWritten::Full;
         }
-        put(out, at, 1, self.to_bits() as u64);
+        put(self.to_bits() as u64, 1, out, at);
         ValueWritten::Written(1)
     }
 }

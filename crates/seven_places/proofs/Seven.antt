@@ -13,7 +13,7 @@ use lib.ListN.{length, getD, set, take, drop, replicate, drop-of-length-le, leng
 use lib.Seq.{length-take-le, drop-cons, getD-take}
 use Rattle.octets.specs.Buffer.{laid}
 use Rattle.octets.proofs.Buffer.{laid-join, laid-none}
-use Rattle.octets.proofs.Order.{cases, holds?, neither}
+use Rattle.octets.proofs.Cases.{cases, holds?, neither}
 use Rattle.seven_places.specs.Seven.{seven, some}
 
 module _ {A : Type 0} where

@@ -1,10 +1,6 @@
--- Arrays of seven, of which the first n places are in use (document 01, "Beacon layout": "Unused places of the arrays of seven hold" the
--- empty entry).
-use Prim.Native.Nat.{ℕ}
-use mathlib.Core.Bool.{Bool, false, cond, _||_}
-use mathlib.Core.List.{List, [], _∷_, map}
-use lib.Dec.{ltb}
-use lib.ListN.{getD}
+-- Arrays of seven, of which the first n places are in use (document 01, "Beacon layout": "Unused places of the arrays
+-- of seven hold" the empty entry).
+use Rattle.octets.specs.Words.{ℕ, Bool, false, cond, _||_, List, [], _∷_, map, ltb, getD}
 
 -- the entries 0 to n - 1, and empty ones behind them
 unfoldable pub seven : {A : Type 0} → (ℕ → A) → A → ℕ → List A

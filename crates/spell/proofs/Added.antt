@@ -11,7 +11,7 @@ use lib.ListN.{length, set, take, length-append, length-take}
 use lib.Seq.{take-all, take-nil, take-append-le, take-append-add}
 use Rattle.octets.specs.Buffer.{laid}
 use Rattle.octets.proofs.Buffer.{laid-none, laid-join, laid-length}
-use Rattle.octets.proofs.Order.{cases, holds?}
+use Rattle.octets.proofs.Cases.{cases, holds?}
 use Rattle.line_cutter.specs.Line.{fitting}
 use Rattle.spell.specs.Added.{Added}
 

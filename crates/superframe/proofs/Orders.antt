@@ -6,7 +6,7 @@ use mathlib.Core.Bool.{false}
 use mathlib.Core.Path.{_≡_, refl}
 use borrow.Author.Tests.{lt-ltb, le-ltb, ltb-true, ltb-false}
 use lib.Dec.{ltb}
-use Rattle.octets.proofs.Order.{cases, holds?}
+use Rattle.octets.proofs.Cases.{cases, holds?}
 use Rattle.superframe.specs.declared.BeaconOrder.{BeaconOrder}
 use Rattle.superframe.specs.declared.BeaconOrder.the-variants as Beacon
 use Rattle.superframe.specs.declared.SuperframeOrder.{SuperframeOrder}

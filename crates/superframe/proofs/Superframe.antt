@@ -10,7 +10,7 @@ use lib.ListN.{length, length-append}
 use Rattle.octets.specs.Outcome.{accepted}
 use Rattle.octets.specs.Part.{ends}
 use Rattle.octets.proofs.Little.{split-length}
-use Rattle.octets.proofs.Order.{cases, holds?, neither}
+use Rattle.octets.proofs.Cases.{cases, holds?, neither}
 use Rattle.superframe.specs.declared.SuperframeSpecification.{SuperframeSpecification}
 use Rattle.superframe.specs.Orders.{beaconOrderBits, beaconOrderTooLarge, superframeOrderBits, superframeOrderTooLarge}
 use Rattle.superframe.specs.Superframe.{superframeIn, readSuperframe, ordersByte, superframeBytes, superframeTooLarge}

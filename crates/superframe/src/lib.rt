@@ -1,10 +1,7 @@
-// The superframe specification: beacon order and superframe order, each a number or the case that 15 stands for, the final slot of the
-// contention access period and three flags, in two bytes.
-// The functions that ask something (`requires`) are building blocks of this project's readers and writers, which measure first.
-ghost use mathlib.Core.Path.{_≡_};
-ghost use mathlib.Core.Bool.{false};
-ghost use Prim.Native.Nat.{_+_, _-_, _≤_};
-ghost use lib.ListN.{length};
+// The superframe specification: beacon order and superframe order, each a number or the case that 15 stands for, the
+// final slot of the contention access period and three flags, in two bytes. The functions that ask something
+// (`requires`) are building blocks of this project's readers and writers, which measure first.
+ghost use Rattle.octets.specs.Words.{_+_, _-_, _≤_, false, _≡_, length};
 ghost use Rattle.octets.specs.Buffer.{laid, after};
 ghost use Rattle.octets.specs.Value.{valueOutcome};
 ghost use Rattle.superframe.specs.Orders.{beaconOrderOf, beaconOrderBits, beaconOrderTooLarge, superframeOrderOf, superframeOrderBits, superframeOrderTooLarge};
@@ -201,17 +198,20 @@ impl SuperframeSpecification {
 
     // Stores the two bytes and returns the place behind them. Asks that no number is too large, and for that room.
     pub fn put(self, out: &mut [u8], at: usize) -> usize
-        requires { ⌜ (superframeTooLarge self ≡ false) × (2 ≤ length (now out) - at) ⌝ }
-        ensures { λ r. ⌜ (r ≡ at + 2) × (now (out .exit) ≡ laid (now (out .entry)) at (superframeBytes self)) ⌝ }
+        requires { ⌜ superframeTooLarge self ≡ false ⌝ }
+        requires { ⌜ 2 ≤ length (now out) - at ⌝ }
+        ensures { λ r. ⌜ r ≡ at + 2 ⌝ }
+        ensures { λ r. ⌜ now (out .exit) ≡ laid (now (out .entry)) at (superframeBytes self) ⌝ }
     {
         let orders = self.orders();
         let rest = self.rest();
-        let next = put(out, at, 1, orders as u64);
-        put(out, next, 1, rest as u64)
+        let next = put(orders as u64, 1, out, at);
+        put(rest as u64, 1, out, next)
     }
 
     pub fn write(self, out: &mut [u8], at: usize) -> ValueWritten
-        ensures { λ r. ⌜ (r ≡ writeSuperframe self (now (out .entry)) at) × (now (out .exit) ≡ after (valueOutcome r) (now (out .entry)) at (superframeBytes self)) ⌝ }
+        ensures { λ r. ⌜ r ≡ writeSuperframe self (now (out .entry)) at ⌝ }
+        ensures { λ r. ⌜ now (out .exit) ≡ after (valueOutcome r) (now (out .entry)) at (superframeBytes self) ⌝ }
     {
         if self.too_large() {
             return ValueWritten::TooLarge;

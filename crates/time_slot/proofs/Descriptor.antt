@@ -10,7 +10,7 @@ use lib.ListN.{length, length-append}
 use Rattle.octets.specs.Outcome.{accepted}
 use Rattle.octets.specs.Part.{ends}
 use Rattle.octets.proofs.Little.{split-length}
-use Rattle.octets.proofs.Order.{cases, holds?, neither}
+use Rattle.octets.proofs.Cases.{cases, holds?, neither}
 use Rattle.time_slot.specs.declared.Direction.the-variants.{Receive}
 use Rattle.time_slot.specs.declared.GuaranteedTimeSlotDescriptor.{GuaranteedTimeSlotDescriptor}
 use Rattle.time_slot.specs.Descriptor.{descriptorIn, readDescriptor, descriptorBytes, descriptorTooLarge}

@@ -1,22 +1,13 @@
--- The descriptor of a guaranteed time slot, document 01, "Beacon layout" (IEEE 802.15.4-2011, 5.2.2.1.5): short address (2), start (low
--- half), length (high half).
-use Prim.Native.Nat.{ℕ, _+_, _*_, _%_}
-use mathlib.Core.Bool.{Bool, _||_}
-use mathlib.Core.List.{List, [], _∷_, _++_}
-use lib.Dec.{ltb}
-use Rattle.octets.specs.Bits.{bits}
-use Rattle.octets.specs.Little.{number, split}
-use Rattle.octets.specs.Order.{first}
-use Rattle.octets.specs.Outcome.{accepted, refused}
-use Rattle.octets.specs.Part.{ends}
-use Rattle.identifiers.specs.declared.ShortAddress.{ShortAddress}
-use Rattle.identifiers.specs.ShortAddress.{short}
-use Rattle.octets.specs.declared.ValueWritten.{ValueWritten}
-use Rattle.octets.specs.Value.{writeValue}
-use Rattle.time_slot.specs.declared.Direction.{Direction}
+-- The descriptor of a guaranteed time slot, document 01, "Beacon layout" (IEEE 802.15.4-2011, 5.2.2.1.5): short address
+-- (2), start (low half), length (high half).
+use Rattle.octets.specs.Words.{ℕ, _+_, _*_, _%_, Bool, _||_, List, [], _∷_, _++_, ltb}
+use Rattle.octets.specs.{declared.ValueWritten.ValueWritten, Bits.bits, Little.number, Little.split, Order.first}
+use Rattle.octets.specs.{Outcome.accepted, Outcome.refused, Part.ends, Value.writeValue}
+use Rattle.identifiers.specs.{declared.ShortAddress.ShortAddress, ShortAddress.short}
+use Rattle.time_slot.specs.{declared.Direction.Direction}
+use Rattle.time_slot.specs.{declared.GuaranteedTimeSlotDescriptor.GuaranteedTimeSlotDescriptor}
+use Rattle.time_slot.specs.{declared.DescriptorRead.DescriptorRead}
 use Rattle.time_slot.specs.declared.Direction.the-variants.{Receive}
-use Rattle.time_slot.specs.declared.GuaranteedTimeSlotDescriptor.{GuaranteedTimeSlotDescriptor}
-use Rattle.time_slot.specs.declared.DescriptorRead.{DescriptorRead}
 
 abbrev pub descriptorOf : ShortAddress → ℕ → ℕ → Direction → GuaranteedTimeSlotDescriptor
 descriptorOf address start length direction =

@@ -1,9 +1,6 @@
-// One guaranteed time slot (GTS): its direction, and its descriptor of three bytes.
-// The functions that ask something (`requires`) are building blocks of this project's readers and writers, which measure first.
-ghost use mathlib.Core.Path.{_≡_};
-ghost use mathlib.Core.Bool.{false};
-ghost use Prim.Native.Nat.{_+_, _-_, _≤_};
-ghost use lib.ListN.{length};
+// One guaranteed time slot (GTS): its direction, and its descriptor of three bytes. The functions that ask something
+// (`requires`) are building blocks of this project's readers and writers, which measure first.
+ghost use Rattle.octets.specs.Words.{_+_, _-_, _≤_, false, _≡_, length};
 ghost use Rattle.octets.specs.Buffer.{laid, after};
 ghost use Rattle.octets.specs.Value.{valueOutcome};
 ghost use Rattle.time_slot.specs.Direction.{directionBit, directionOf};
@@ -24,7 +21,8 @@ pub enum Direction {
 impl Direction {
     // The bit that stands for a direction: only here is it said which of the two a set bit means.
     pub fn to_bit(self) -> u8
-        ensures { λ r. ⌜ (r ≡ directionBit self) × (r ≤ 1) ⌝ }
+        ensures { λ r. ⌜ r ≡ directionBit self ⌝ }
+        ensures { λ r. ⌜ r ≤ 1 ⌝ }
     {
         match self {
             Direction::Receive => 0,
@@ -123,18 +121,21 @@ impl GuaranteedTimeSlotDescriptor {
 
     // Stores the three bytes and returns the place behind them. Asks that no number is too large, and for that room.
     pub fn put(self, out: &mut [u8], at: usize) -> usize
-        requires { ⌜ (descriptorTooLarge self ≡ false) × (3 ≤ length (now out) - at) ⌝ }
-        ensures { λ r. ⌜ (r ≡ at + 3) × (now (out .exit) ≡ laid (now (out .entry)) at (descriptorBytes self)) ⌝ }
+        requires { ⌜ descriptorTooLarge self ≡ false ⌝ }
+        requires { ⌜ 3 ≤ length (now out) - at ⌝ }
+        ensures { λ r. ⌜ r ≡ at + 3 ⌝ }
+        ensures { λ r. ⌜ now (out .exit) ≡ laid (now (out .entry)) at (descriptorBytes self) ⌝ }
     {
         let address = self.short_address.0;
         let slot = self.starting_slot + 16 * self.length;
-        let next = put(out, at, 2, address as u64);
-        put(out, next, 1, slot as u64)
+        let next = put(address as u64, 2, out, at);
+        put(slot as u64, 1, out, next)
     }
 
     // The direction has no bit of its own here.
     pub fn write(self, out: &mut [u8], at: usize) -> ValueWritten
-        ensures { λ r. ⌜ (r ≡ writeDescriptor self (now (out .entry)) at) × (now (out .exit) ≡ after (valueOutcome r) (now (out .entry)) at (descriptorBytes self)) ⌝ }
+        ensures { λ r. ⌜ r ≡ writeDescriptor self (now (out .entry)) at ⌝ }
+        ensures { λ r. ⌜ now (out .exit) ≡ after (valueOutcome r) (now (out .entry)) at (descriptorBytes self) ⌝ }
     {
         if self.too_large() {
             return ValueWritten::TooLarge;

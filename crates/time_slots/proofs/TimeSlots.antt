@@ -12,7 +12,7 @@ use lib.Pow.{pow-mono}
 use Rattle.octets.specs.Little.{split}
 use Rattle.octets.specs.Outcome.{accepted}
 use Rattle.octets.specs.Part.{ends}
-use Rattle.octets.proofs.Order.{cases, holds?, neither}
+use Rattle.octets.proofs.Cases.{cases, holds?, neither}
 use Rattle.octets.proofs.Little.{split-length}
 use Rattle.seven_places.specs.Seven.{some}
 use Rattle.seven_places.proofs.Seven.{rest-next, each-length}

@@ -1,30 +1,22 @@
--- GTS information, document 01, "Beacon layout" (IEEE 802.15.4-2011, 5.2.2.1.3 to 5.2.2.1.5). Header: count n bits 0-2, permit 7. For n > 0
--- a direction byte, then n descriptors. Bit k of the direction byte belongs to descriptor k.
-use Prim.Native.Nat.{ℕ, zero, suc, _+_, _*_, _%_}
-use mathlib.Core.Bool.{Bool, false, _||_}
-use mathlib.Core.List.{List, [], _∷_, _++_, flatMap}
-use lib.Dec.{ltb}
-use lib.ListN.{take}
-use Rattle.octets.specs.Bits.{bits, bit, bitOf}
-use Rattle.octets.specs.Little.{number, split}
-use Rattle.octets.specs.Order.{first}
-use Rattle.octets.specs.Outcome.{accepted, refused}
-use Rattle.octets.specs.Part.{ends}
-use Rattle.octets.specs.declared.ValueWritten.{ValueWritten}
-use Rattle.octets.specs.Value.{writeValue}
-use Rattle.seven_places.specs.Seven.{seven, some}
-use Rattle.time_slot.specs.declared.GuaranteedTimeSlotDescriptor.{GuaranteedTimeSlotDescriptor}
-use Rattle.time_slot.specs.Direction.{directionBit, directionOf}
-use Rattle.time_slot.specs.Descriptor.{emptyDescriptor, descriptorIn, descriptorBytes, descriptorTooLarge}
-use Rattle.time_slots.specs.declared.GuaranteedTimeSlotInformation.{GuaranteedTimeSlotInformation}
-use Rattle.time_slots.specs.declared.TimeSlotsRead.{TimeSlotsRead}
+-- GTS information, document 01, "Beacon layout" (IEEE 802.15.4-2011, 5.2.2.1.3 to 5.2.2.1.5). Header: count n bits 0-2,
+-- permit 7. For n > 0 a direction byte, then n descriptors. Bit k of the direction byte belongs to descriptor k.
+use Rattle.octets.specs.Words.{ℕ, zero, suc, _+_, _*_, _%_, Bool, false, _||_, List, [], _∷_, _++_, flatMap, ltb, take}
+use Rattle.octets.specs.{declared.ValueWritten.ValueWritten, Bits.bits, Bits.bit, Bits.bitOf, Little.number}
+use Rattle.octets.specs.{Little.split, Order.first, Outcome.accepted, Outcome.refused, Part.ends, Value.writeValue}
+use Rattle.seven_places.specs.{Seven.seven, Seven.some}
+use Rattle.time_slot.specs.{declared.GuaranteedTimeSlotDescriptor.GuaranteedTimeSlotDescriptor, Direction.directionBit}
+use Rattle.time_slot.specs.{Direction.directionOf, Descriptor.emptyDescriptor, Descriptor.descriptorIn}
+use Rattle.time_slot.specs.{Descriptor.descriptorBytes, Descriptor.descriptorTooLarge}
+use Rattle.time_slots.specs.{declared.GuaranteedTimeSlotInformation.GuaranteedTimeSlotInformation}
+use Rattle.time_slots.specs.{declared.TimeSlotsRead.TimeSlotsRead}
 
 -- how many bytes n slots take behind the header
 abbrev pub slotsLength : ℕ → ℕ
 slotsLength zero = 0
 slotsLength (suc k) = 1 + 3 * suc k
 
--- how many the reader wants to see there: "For n > 0 the GTS reader called alone demands 2+3n bytes after its header but consumes 1+3n"
+-- how many the reader wants to see there: "For n > 0 the GTS reader called alone demands 2+3n bytes after its header
+-- but consumes 1+3n"
 abbrev pub slotsDemand : ℕ → ℕ
 slotsDemand zero = 0
 slotsDemand (suc k) = 2 + 3 * suc k

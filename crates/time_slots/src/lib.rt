@@ -1,11 +1,7 @@
-// The GTS information of a beacon: a header with permit and count, and for a count above 0 a byte of directions and the descriptors of the
-// guaranteed time slots.
-// The functions that ask something (`requires`) are building blocks of this project's readers and writers, which measure first.
-ghost use mathlib.Core.Path.{_≡_};
-ghost use mathlib.Core.Bool.{false};
-ghost use mathlib.Core.List.{flatMap};
-ghost use Prim.Native.Nat.{_+_, _-_, _*_, _≤_, _<_};
-ghost use lib.ListN.{length, take};
+// The GTS information of a beacon: a header with permit and count, and for a count above 0 a byte of directions and the
+// descriptors of the guaranteed time slots. The functions that ask something (`requires`) are building blocks of this
+// project's readers and writers, which measure first.
+ghost use Rattle.octets.specs.Words.{_+_, _-_, _*_, _≤_, _<_, false, flatMap, _≡_, length, take};
 ghost use Rattle.octets.specs.Buffer.{laid, after};
 ghost use Rattle.octets.specs.Value.{valueOutcome};
 ghost use Rattle.seven_places.specs.Seven.{some};
@@ -23,7 +19,8 @@ use time_slot::GuaranteedTimeSlotDescriptor;
 // How many bytes n slots take behind the header. Asks for at most seven.
 fn slots_length(n: usize) -> usize
     requires { ⌜ n ≤ 7 ⌝ }
-    ensures { λ r. ⌜ (r ≡ slotsLength n) × (r ≤ 22) ⌝ }
+    ensures { λ r. ⌜ r ≡ slotsLength n ⌝ }
+    ensures { λ r. ⌜ r ≤ 22 ⌝ }
 {
     if n == 0 { 0 } else { 1 + 3 * n }
 }
@@ -31,14 +28,16 @@ fn slots_length(n: usize) -> usize
 // How many bytes the reader wants to see behind the header of n slots. Asks for at most seven.
 fn slots_demand(n: usize) -> usize
     requires { ⌜ n ≤ 7 ⌝ }
-    ensures { λ r. ⌜ (r ≡ slotsDemand n) × (r ≤ 23) ⌝ }
+    ensures { λ r. ⌜ r ≡ slotsDemand n ⌝ }
+    ensures { λ r. ⌜ r ≤ 23 ⌝ }
 {
     if n == 0 { 0 } else { 2 + 3 * n }
 }
 
 // Slot k of the list whose directions stand at a place. Asks that both are there.
 fn slot_at(s: &[u8], at: usize, k: usize) -> GuaranteedTimeSlotDescriptor
-    requires { ⌜ (k < 7) × (at + 1 + 3 * k + 3 ≤ length (now s)) ⌝ }
+    requires { ⌜ k < 7 ⌝ }
+    requires { ⌜ at + 1 + 3 * k + 3 ≤ length (now s) ⌝ }
     ensures { λ r. ⌜ r ≡ slotAt (now (s .entry)) at k ⌝ }
 {
     let direction = Direction::from_bit((u8_at(s, at) >> k) % 2);
@@ -47,7 +46,8 @@ fn slot_at(s: &[u8], at: usize, k: usize) -> GuaranteedTimeSlotDescriptor
 
 // The n slots of the list at a place, and empty ones behind them. Asks that they are there and at most seven.
 fn slots_at(s: &[u8], at: usize, n: usize) -> [GuaranteedTimeSlotDescriptor; 7]
-    requires { ⌜ (n ≤ 7) × (at + slotsLength n ≤ length (now s)) ⌝ }
+    requires { ⌜ n ≤ 7 ⌝ }
+    requires { ⌜ at + slotsLength n ≤ length (now s) ⌝ }
     ensures { λ r. ⌜ r ≡ slotsIn (now (s .entry)) at n ⌝ }
 {
     let mut slots = [GuaranteedTimeSlotDescriptor::new(); 7];
@@ -91,10 +91,14 @@ fn directions(slots: [GuaranteedTimeSlotDescriptor; 7], n: usize) -> u8
     byte
 }
 
-// Stores the first n slots side by side and returns the place behind them. Asks that no number is too large, and for that room.
+// Stores the first n slots side by side and returns the place behind them. Asks that no number is too large, and for
+// that room.
 fn put_slots(slots: [GuaranteedTimeSlotDescriptor; 7], n: usize, out: &mut [u8], at: usize) -> usize
-    requires { ⌜ (n ≤ 7) × ((some descriptorTooLarge (take n slots) ≡ false) × (3 * n ≤ length (now out) - at)) ⌝ }
-    ensures { λ r. ⌜ (r ≡ at + 3 * n) × (now (out .exit) ≡ laid (now (out .entry)) at (flatMap descriptorBytes (take n slots))) ⌝ }
+    requires { ⌜ n ≤ 7 ⌝ }
+    requires { ⌜ some descriptorTooLarge (take n slots) ≡ false ⌝ }
+    requires { ⌜ 3 * n ≤ length (now out) - at ⌝ }
+    ensures { λ r. ⌜ r ≡ at + 3 * n ⌝ }
+    ensures { λ r. ⌜ now (out .exit) ≡ laid (now (out .entry)) at (flatMap descriptorBytes (take n slots)) ⌝ }
 {
     let mut k = 0;
     while k < n {
@@ -107,14 +111,18 @@ fn put_slots(slots: [GuaranteedTimeSlotDescriptor; 7], n: usize, out: &mut [u8],
 
 // Stores what follows the header: for any slot, the directions and the slots. Asks as above.
 fn put_list(slots: [GuaranteedTimeSlotDescriptor; 7], n: usize, out: &mut [u8], at: usize) -> usize
-    requires { ⌜ (n ≤ 7) × ((some descriptorTooLarge (take n slots) ≡ false) × (slotsLength n ≤ length (now out) - at)) ⌝ }
-    ensures { λ r. ⌜ (r ≡ at + slotsLength n) × ((now (out .exit) ≡ laid (now (out .entry)) at (listBytes (take n slots))) × (length (listBytes (take n slots)) ≡ slotsLength n)) ⌝ }
+    requires { ⌜ n ≤ 7 ⌝ }
+    requires { ⌜ some descriptorTooLarge (take n slots) ≡ false ⌝ }
+    requires { ⌜ slotsLength n ≤ length (now out) - at ⌝ }
+    ensures { λ r. ⌜ r ≡ at + slotsLength n ⌝ }
+    ensures { λ r. ⌜ now (out .exit) ≡ laid (now (out .entry)) at (listBytes (take n slots)) ⌝ }
+    ensures { λ r. ⌜ length (listBytes (take n slots)) ≡ slotsLength n ⌝ }
 {
     if n == 0 {
         return at;
     }
     let byte = directions(slots, n);
-    let next = put(out, at, 1, byte as u64);
+    let next = put(byte as u64, 1, out, at);
     put_slots(slots, n, out, next)
 }
 
@@ -160,7 +168,8 @@ impl GuaranteedTimeSlotInformation {
         }
     }
 
-    // Read alone, it wants to see one byte more behind its slots than it takes, as the crate does: in a beacon another part follows.
+    // Read alone, it wants to see one byte more behind its slots than it takes, as the crate does: in a beacon another
+    // part follows.
     pub fn read(s: &[u8], at: usize) -> TimeSlotsRead
         ensures { λ r. ⌜ r ≡ readTimeSlots (now (s .entry)) at ⌝ }
     {
@@ -200,7 +209,8 @@ impl GuaranteedTimeSlotInformation {
     // How many bytes it is written in. Asks for a count of at most seven.
     pub fn size(self) -> usize
         requires { ⌜ self .«slot_count» ≤ 7 ⌝ }
-        ensures { λ r. ⌜ (r ≡ timeSlotsSize self) × (r ≤ 23) ⌝ }
+        ensures { λ r. ⌜ r ≡ timeSlotsSize self ⌝ }
+        ensures { λ r. ⌜ r ≤ 23 ⌝ }
     {
         1 + slots_length(self.slot_count)
     }
@@ -215,17 +225,21 @@ impl GuaranteedTimeSlotInformation {
 
     // Stores it and returns the place behind it. Asks that no number is too large, and for that room.
     pub fn put(self, out: &mut [u8], at: usize) -> usize
-        requires { ⌜ (timeSlotsTooLarge self ≡ false) × (timeSlotsSize self ≤ length (now out) - at) ⌝ }
-        ensures { λ r. ⌜ (r ≡ at + timeSlotsSize self) × ((now (out .exit) ≡ laid (now (out .entry)) at (timeSlotsBytes self)) × (length (timeSlotsBytes self) ≡ timeSlotsSize self)) ⌝ }
+        requires { ⌜ timeSlotsTooLarge self ≡ false ⌝ }
+        requires { ⌜ timeSlotsSize self ≤ length (now out) - at ⌝ }
+        ensures { λ r. ⌜ r ≡ at + timeSlotsSize self ⌝ }
+        ensures { λ r. ⌜ now (out .exit) ≡ laid (now (out .entry)) at (timeSlotsBytes self) ⌝ }
+        ensures { λ r. ⌜ length (timeSlotsBytes self) ≡ timeSlotsSize self ⌝ }
     {
         let slots = self.slots;
         let header = self.header();
-        let next = put(out, at, 1, header as u64);
+        let next = put(header as u64, 1, out, at);
         put_list(slots, self.slot_count, out, next)
     }
 
     pub fn write(self, out: &mut [u8], at: usize) -> ValueWritten
-        ensures { λ r. ⌜ (r ≡ writeTimeSlots self (now (out .entry)) at) × (now (out .exit) ≡ after (valueOutcome r) (now (out .entry)) at (timeSlotsBytes self)) ⌝ }
+        ensures { λ r. ⌜ r ≡ writeTimeSlots self (now (out .entry)) at ⌝ }
+        ensures { λ r. ⌜ now (out .exit) ≡ after (valueOutcome r) (now (out .entry)) at (timeSlotsBytes self) ⌝ }
     {
         if self.too_large() {
             return ValueWritten::TooLarge;

@@ -11,11 +11,11 @@ use Rattle.octets.proofs.put.Statement.{statement}
 use Rattle.octets.proofs.put.Tie as tie
 
 abbrev Inv-loop : tie.InvT-loop
-Inv-loop out₀ at n v rest₀ i₀ out rest i =
+Inv-loop v n out₀ at rest₀ i₀ out rest i =
     (i ≤ n) × ((rest < 2 ^ 64) × ((length out ≡ length out₀) × (laid out (at + i) (split (n - i) rest) ≡ laid out₀ at (split n v))))
 
 abbrev μ-loop : tie.MeasureT-loop
-μ-loop out₀ at n v rest₀ i₀ out rest i = n - i
+μ-loop v n out₀ at rest₀ i₀ out rest i = n - i
 
 loop-holds : tie.Need-loop-holds Inv-loop μ-loop
 loop-holds c =

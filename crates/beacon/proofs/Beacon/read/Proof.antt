@@ -1,4 +1,5 @@
--- `beacon::Beacon::read` meets its contract: its tests are the definition's, in turn, and a part that is not refused is the part at its place.
+-- `beacon::Beacon::read` meets its contract: its tests are the definition's, in turn, and a part that is not refused is the part at its
+-- place.
 -- Assumes nothing.
 use Prim.Native.Nat.{_+_, _-_, _≤_}
 use native.Mathlib.Omega.{arith}

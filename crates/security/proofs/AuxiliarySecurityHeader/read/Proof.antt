@@ -1,4 +1,5 @@
--- `security::AuxiliarySecurityHeader::read` meets its contract: five bytes tell how many there are to be; its tests are then the definition's.
+-- `security::AuxiliarySecurityHeader::read` meets its contract: five bytes tell how many there are to be; its tests are then the
+-- definition's.
 -- Assumes nothing.
 use mathlib.Core.Path.{_≡_, ap, _∙_}
 use denote.Ref.{now}

@@ -1,4 +1,5 @@
--- `security::AuxiliarySecurityHeader::write` meets its contract: its tests are the definition's, in their order, and then the whole is stored.
+-- `security::AuxiliarySecurityHeader::write` meets its contract: its tests are the definition's, in their order, and then the whole is
+-- stored.
 -- Assumes nothing.
 use mathlib.Core.Path.{refl}
 use borrow.Author.Needs.{needs}
