@@ -137,9 +137,6 @@ rest-end s at room n e =
     (λ t. let h : n < room = ltb-true n room t in rest-none s at room n (unhex-end s (at + 2 * n) (omega arith)))
     (λ t. let h : room ≤ n = ltb-false n room t in let z : room - n ≡ 0 = omega arith in rw z)
 
--- no more bytes than there is room for, and than there are pairs
+-- no more bytes than there is room for
 pub decoded-room : (s : List ℕ) (at room : ℕ) → length (decoded s at room) ≤ room
 decoded-room s at room = omega (arith, length-take room (unhex (drop at s)))
-
-pub decoded-pairs : (s : List ℕ) (at room : ℕ) → 2 * length (decoded s at room) ≤ length s - at
-decoded-pairs s at room = omega (arith, length-take room (unhex (drop at s)), unhex-length (drop at s), length-drop at s)

@@ -1,25 +1,46 @@
 // Bytes in hex, two digits of either case to a byte.
-mod table;
-
-ghost use Rattle.octets.specs.Words.{ℕ, _-_, _/_, _<_, min, _≡_, length, getD};
+ghost use Rattle.octets.specs.Words.{_-_, _/_, min, _≡_, length};
 ghost use Rattle.octets.specs.Buffer.{laid};
 ghost use Rattle.hex.specs.Hex.{digit, decoded};
+use octets::least;
 use octets::left;
-use table::VALUES;
 
-// The value of each byte as a digit, and 16 of a byte that is none.
-fn values() -> [u8; 256]
-    ensures { λ r. ⌜ ((b : ℕ) → b < 256 → getD r b 0 ≡ digit b) ⌝ }
+// The value of a digit, and 16 of a byte that is none. The compiler makes one load of it.
+fn value(b: u8) -> u8
+    ensures { λ r. ⌜ r ≡ digit b ⌝ }
 {
-    VALUES
+    match b {
+        b'0' => 0,
+        b'1' => 1,
+        b'2' => 2,
+        b'3' => 3,
+        b'4' => 4,
+        b'5' => 5,
+        b'6' => 6,
+        b'7' => 7,
+        b'8' => 8,
+        b'9' => 9,
+        b'A' => 10,
+        b'B' => 11,
+        b'C' => 12,
+        b'D' => 13,
+        b'E' => 14,
+        b'F' => 15,
+        b'a' => 10,
+        b'b' => 11,
+        b'c' => 12,
+        b'd' => 13,
+        b'e' => 14,
+        b'f' => 15,
+        _ => 16,
+    }
 }
 
 // How many pairs of digits there can be from a place of s on, with room for a byte each.
 fn most(s: &[u8], at: usize, room: usize) -> usize
     ensures { λ r. ⌜ r ≡ min ((length (now (s .entry)) - at) / 2) room ⌝ }
 {
-    let pairs = left(s, at) / 2;
-    if pairs < room { pairs } else { room }
+    least(left(s, at) / 2, room)
 }
 
 // Decodes the pairs of digits from a place of s on into out, up to the first pair that is not two digits or the end of
@@ -29,12 +50,11 @@ pub fn decode(s: &[u8], at: usize, out: &mut [u8]) -> usize
     ensures { λ r. ⌜ r ≡ length (decoded (now (s .entry)) at (length (now (out .entry)))) ⌝ }
     ensures { λ r. ⌜ now (out .exit) ≡ laid (now (out .entry)) 0 (decoded (now (s .entry)) at (length (now (out .entry)))) ⌝ }
 {
-    let value = values();
     let end = most(s, at, out.len());
     let mut n = 0;
     while n < end {
-        let high = value[s[at + 2 * n] as usize];
-        let low = value[s[at + 2 * n + 1] as usize];
+        let high = value(s[at + 2 * n]);
+        let low = value(s[at + 2 * n + 1]);
         if high > 15 {
             return n;
         }

@@ -11,11 +11,11 @@ use borrow.Author.Tests.{ltb-true, ltb-false, lt-ltb, le-ltb, eqb-true, eq-eqb, 
 use lib.Dec.{ltb, eqb}
 use lib.ListN.{length, getD, set, take, drop, length-append, length-take, length-drop, drop-of-length-le}
 use lib.Seq.{drop-cons, take-all, take-nil, take-at, take-append-add, length-take-le, drop-drop, split-at}
-use Rattle.octets.specs.Buffer.{laid}
-use Rattle.octets.proofs.Buffer.{laid-none, laid-cons, laid-parts}
-use Rattle.octets.proofs.Cases.{cases, holds?}
+use Rattle.octets.specs.Buffer.{laid, fitting}
+use Rattle.octets.proofs.Buffer.{laid-none, laid-parts}
+use Rattle.octets.proofs.Cases.{cases, holds?, neither}
 use Rattle.line_cutter.specs.declared.Taken.{Taken}
-use Rattle.line_cutter.specs.Line.{before, lineOf, lineEnds, behind, fitting, taken}
+use Rattle.line_cutter.specs.Line.{before, lineOf, lineEnds, behind, taken}
 
 -- one byte at a time
 pub before-first : (a b : ℕ) (s : List ℕ) (i : ℕ) → i < length s → getD s i 0 ≡ a → before a b (drop i s) ≡ []
@@ -58,26 +58,18 @@ pub free-append : (a : ℕ) (s t : List ℕ) → Free a s → Free a t → Free 
 free-append a [] t f g = g
 free-append a (c ∷ s) t f g = (f .0, free-append a s t (f .1) g)
 
-or-left : (x y : Bool) → (x || y) ≡ false → x ≡ false
-or-left true y e = e
-or-left false y e = refl
-
-or-right : (x y : Bool) → (x || y) ≡ false → y ≡ false
-or-right true y e = absurd (true≢false e)
-or-right false y e = e
-
 -- neither of two wanted bytes stands before the first of them
 pub free-first : (a b : ℕ) (s : List ℕ) → Free a (before a b s)
 unfolding before
 free-first a b [] = tt
 free-first a b (c ∷ s) =
-    cases (holds? (eqb c a || eqb c b)) (λ e. simp e tt) (λ e. simp e (or-left (eqb c a) (eqb c b) e, free-first a b s))
+    cases (holds? (eqb c a || eqb c b)) (λ e. simp e tt) (λ e. simp e (neither (eqb c a) (eqb c b) e .0, free-first a b s))
 
 pub free-second : (a b : ℕ) (s : List ℕ) → Free b (before a b s)
 unfolding before
 free-second a b [] = tt
 free-second a b (c ∷ s) =
-    cases (holds? (eqb c a || eqb c b)) (λ e. simp e tt) (λ e. simp e (or-right (eqb c a) (eqb c b) e, free-second a b s))
+    cases (holds? (eqb c a || eqb c b)) (λ e. simp e tt) (λ e. simp e (neither (eqb c a) (eqb c b) e .1, free-second a b s))
 
 -- the first of its kind
 pub before-free : (a : ℕ) (s t : List ℕ) → Free a s → before a a (s ++ (a ∷ t)) ≡ s
@@ -108,35 +100,6 @@ line-ended s h =
 
 pub line-open : (s : List ℕ) → lineEnds s ≡ false → lineOf s ≡ s
 line-open s h = sym (before-take 10 10 s) ∙ take-all (length (lineOf s)) s (ltb-false _ _ h)
-
--- what is stored of a list from a place on: as much as the shorter of the list and the room
-pub fitting-least : (out : List ℕ) (at : ℕ) (s : List ℕ) (n : ℕ) → n ≡ min (length s) (length out - at) → take n s ≡ fitting out at s
-fitting-least out at s n e =
-    cases (holds? (ltb (length s) (length out - at)))
-    (λ t.
-    let h : length s < length out - at = ltb-true _ _ t in
-    let f : length s ≤ n = omega arith in
-    let g : length s ≤ length out - at = omega arith in
-    take-all n s f ∙ sym (take-all (length out - at) s g))
-    (λ t. let h : length out - at ≤ length s = ltb-false _ _ t in let f : n ≡ length out - at = omega arith in rw f)
-
--- a store, one byte after the other
-pub store-start : (out : List ℕ) (at : ℕ) (s : List ℕ) (n : ℕ) → n ≡ min (length s) (length out - at) →
-    laid out (at + 0) (take (n - 0) (drop 0 s)) ≡ laid out at (fitting out at s)
-store-start out at s n e =
-    let f : at + 0 ≡ at = omega arith in
-    let g : n - 0 ≡ n = omega arith in
-    rw (f, g, fitting-least out at s n e)
-
-pub store-next : (out : List ℕ) (at : ℕ) (s : List ℕ) (n i : ℕ) → i < n → i < length s →
-    laid (set out (at + i) (getD s i 0)) (at + (i + 1)) (take (n - (i + 1)) (drop (i + 1) s)) ≡ laid out (at + i) (take (n - i) (drop i s))
-store-next out at s n i h k =
-    let f : at + (i + 1) ≡ at + i + 1 = omega arith in
-    let g : n - i ≡ suc (n - (i + 1)) = omega arith in
-    rw (f, laid-cons out (at + i) (getD s i 0), g, drop-cons s i 0 k, add-one i)
-
-pub store-done : (out : List ℕ) (at : ℕ) (s : List ℕ) (n : ℕ) → n ≡ 0 → laid out at (take n s) ≡ out
-store-done out at s n e = rw e (laid-none out at)
 
 -- what is taken: nothing where the chunk is used up, else a line with its line feed, or all that is left
 pub taken-none : (chunk : List ℕ) (at n : ℕ) (line : List ℕ) → length chunk ≤ at →

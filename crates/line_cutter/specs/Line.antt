@@ -1,6 +1,21 @@
--- One line of an input at a time (document 01, "Line program"): a line feed, byte 10, ends a line and is no part of it.
-use Rattle.octets.specs.Words.{ℕ, _+_, _-_, Bool, cond, _||_, List, [], _∷_, ltb, eqb, length, take, drop}
+-- One line of an input at a time (document 01, "Line program"): a line feed ends a line and is no part of it.
+use Rattle.octets.specs.Words.{ℕ, _+_, Bool, cond, _||_, List, [], _∷_, ltb, eqb, length, drop}
+use Rattle.octets.specs.{Buffer.fitting}
 use Rattle.line_cutter.specs.{declared.Taken.Taken}
+
+-- the bytes that part what stands in a line, and lines
+abbrev pub tabByte : ℕ
+tabByte = 9
+
+abbrev pub lineFeed : ℕ
+lineFeed = 10
+
+-- the longest line that is not too long, without its line feed, and how much of a line is kept to tell
+abbrev pub lineMost : ℕ
+lineMost = 1024
+
+abbrev pub keptMost : ℕ
+keptMost = lineMost + 1
 
 -- the bytes of s before the first that is a or b
 unfoldable pub before : ℕ → ℕ → List ℕ → List ℕ
@@ -9,7 +24,7 @@ before a b (c ∷ s) = cond (eqb c a || eqb c b) [] (c ∷ before a b s)
 
 -- the bytes of s before its first line feed
 abbrev pub lineOf : List ℕ → List ℕ
-lineOf s = before 10 10 s
+lineOf s = before lineFeed lineFeed s
 
 -- a line feed stands in s
 abbrev pub lineEnds : List ℕ → Bool
@@ -18,10 +33,6 @@ lineEnds s = ltb (length (lineOf s)) (length s)
 -- what follows the first line feed
 abbrev pub behind : List ℕ → List ℕ
 behind s = drop (length (lineOf s) + 1) s
-
--- as much of s as has room in a buffer from a place on
-abbrev pub fitting : List ℕ → ℕ → List ℕ → List ℕ
-fitting out at s = take (length out - at) s
 
 -- what is taken of s, which begins at a place of its chunk, where n bytes of a buffer hold the line so far
 unfoldable pub taken : List ℕ → ℕ → List ℕ → ℕ → Taken

@@ -1,16 +1,17 @@
 -- All lines of an input: each that a line feed ends, and a last one that need not be ended. An input that ends in a
 -- line feed has no further line (document 01, "Line program": "A last line need not be ended").
 use Rattle.octets.specs.Words.{ℕ, cond, List, [], _∷_, _++_, eqb, take}
+use Rattle.line_cutter.specs.{Line.lineFeed}
 
 -- the lines that end in s, where l is what came of the first one before s
 unfoldable pub ended : List ℕ → List ℕ → List (List ℕ)
 ended l [] = []
-ended l (b ∷ s) = cond (eqb b 10) (l ∷ ended [] s) (ended (l ++ (b ∷ [])) s)
+ended l (b ∷ s) = cond (eqb b lineFeed) (l ∷ ended [] s) (ended (l ++ (b ∷ [])) s)
 
 -- what has come of the next line where s ends
 unfoldable pub begun : List ℕ → List ℕ → List ℕ
 begun l [] = l
-begun l (b ∷ s) = cond (eqb b 10) (begun [] s) (begun (l ++ (b ∷ [])) s)
+begun l (b ∷ s) = cond (eqb b lineFeed) (begun [] s) (begun (l ++ (b ∷ [])) s)
 
 -- where the input ends: a line if it has a byte
 unfoldable pub last : List ℕ → List (List ℕ)

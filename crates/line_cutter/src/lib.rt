@@ -1,10 +1,16 @@
 // Cuts input that comes in chunks into lines. The line at hand is the first n bytes of a buffer that the caller lends,
 // which keeps as much of a line as has room: one byte more than the longest line allowed is enough to tell a longer
 // one.
-ghost use Rattle.octets.specs.Words.{_+_, min, _≡_, length, drop};
-ghost use Rattle.octets.specs.Buffer.{laid};
-ghost use Rattle.line_cutter.specs.Line.{before, fitting, lineOf, taken};
-use octets::left;
+ghost use Rattle.octets.specs.Words.{_+_, _≡_, length, drop};
+ghost use Rattle.octets.specs.Buffer.{laid, fitting};
+ghost use Rattle.line_cutter.specs.Line.{before, lineOf, taken};
+use octets::copy;
+
+// The longest line that is not refused as too long, without its line feed.
+pub const LINE_MOST: usize = 1024;
+
+// How much of a line is kept: one byte more tells that it is too long.
+pub const KEPT_MOST: usize = 1025;
 
 // What was taken of a chunk: how many bytes of the line at hand are kept, the place up to which the chunk is used, and
 // whether the line has ended.
@@ -32,26 +38,6 @@ pub fn find(s: &[u8], at: usize, a: u8, b: u8) -> usize
     i
 }
 
-fn least(a: usize, b: usize) -> usize
-    ensures { λ r. ⌜ r ≡ min a b ⌝ }
-{
-    if a < b { a } else { b }
-}
-
-// Stores s from a place of out on, as much of it as has room, and returns the place behind it.
-pub fn copy(s: &[u8], out: &mut [u8], at: usize) -> usize
-    ensures { λ r. ⌜ r ≡ at + length (fitting (now (out .entry)) at (now (s .entry))) ⌝ }
-    ensures { λ r. ⌜ now (out .exit) ≡ laid (now (out .entry)) at (fitting (now (out .entry)) at (now (s .entry))) ⌝ }
-{
-    let end = least(s.len(), left(out, at));
-    let mut i = 0;
-    while i < end {
-        out[at + i] = s[i];
-        i += 1;
-    }
-    at + end
-}
-
 // Adds the bytes of a chunk, from a place on and up to a line feed, to the n bytes of the line at hand, as many as have
 // room. The line feed is used up, and is not kept.
 pub fn cut(chunk: &[u8], at: usize, line: &mut [u8], n: usize) -> Taken
@@ -65,7 +51,7 @@ pub fn cut(chunk: &[u8], at: usize, line: &mut [u8], n: usize) -> Taken
             ended: false,
         };
     }
-    let end = find(chunk, at, 10, 10);
+    let end = find(chunk, at, b'\n', b'\n');
     let kept = copy(&chunk[at..end], line, n);
     if end < chunk.len() {
         Taken {

@@ -1,20 +1,20 @@
 -- `hex::decode` meets its contract. The invariant: what is left to decode, stored from where the loop stands, gives what is wanted.
 -- Assumes nothing.
-use Prim.Native.Nat.{ℕ, _+_, _-_, _*_, _≤_, _<_}
+use Prim.Native.Nat.{ℕ, _+_, _-_, _*_, _≤_}
 use native.Mathlib.Omega.{arith}
 use mathlib.Core.List.{List, []}
 use mathlib.Core.Path.{_≡_, refl, sym, ap, _∙_}
 use borrow.Author.Needs.{needs}
-use lib.ListN.{length, getD, length-set}
+use lib.ListN.{length, length-set}
 use Rattle.octets.specs.Buffer.{laid}
 use Rattle.octets.proofs.Buffer.{laid-none, laid-cons}
-use Rattle.hex.specs.Hex.{digit, decoded}
+use Rattle.hex.specs.Hex.{decoded}
 use Rattle.hex.proofs.Hex.{unhex-high, unhex-low, rest, rest-all, rest-pair, rest-none, rest-end}
 use Rattle.hex.proofs.decode.Statement.{statement}
 use Rattle.hex.proofs.decode.Tie as tie
 
 abbrev Inv-loop : tie.InvT-loop
-Inv-loop s at out₀ value end n₀ out n =
+Inv-loop s at out₀ end n₀ out n =
     (n ≤ end)
     × (end ≤ length out₀)
     × (2 * end ≤ length s - at)
@@ -23,48 +23,23 @@ Inv-loop s at out₀ value end n₀ out n =
     × (n + length (rest s at (length out₀) n) ≡ length (decoded s at (length out₀)))
 
 abbrev μ-loop : tie.MeasureT-loop
-μ-loop s at out₀ value end n₀ out n = end - n
+μ-loop s at out₀ end n₀ out n = end - n
 
 loop-holds : tie.Need-loop-holds Inv-loop μ-loop
 loop-holds c =
-    let a = c .before .before .before .before .args in
+    let a = c .before .before .before .args in
     let e = rest-all (a .s .now) (a .at) (length (a .out .now)) in
     (omega arith, omega arith, omega arith, refl, ap (laid (a .out .now) 0) e, omega (arith, ap length e))
 
--- the two bytes at hand are bytes, and the table has their values
-high-byte : (c : tie.After-shared-slice-known2 Inv-loop μ-loop) →
-    let a = c .before .before .before .before .before .before .before .args in
-    getD (a .s .now) (a .at + 2 * c .before .before .loop .n) 0 < 256
-high-byte c =
-    let a = c .before .before .before .before .before .before .before .args in
-    omega (arith, c .shared-slice-known2 .given (a .at + 2 * c .before .before .loop .n))
-
-high-digit : (c : tie.After-shared-slice-known2 Inv-loop μ-loop) →
-    let v = c .before .before .before .before in
-    let b = getD (v .before .before .before .args .s .now) (v .before .before .before .args .at + 2 * c .before .before .loop .n) 0 in
-    getD (v .values .result) b 0 ≡ digit b
-high-digit c = c .before .before .before .before .values .ensures _ (high-byte c)
-
-low-byte : (c : tie.After-shared-slice-known3 Inv-loop μ-loop) →
-    let a = c .before .before .before .before .before .before .before .before .args in
-    getD (a .s .now) (a .at + 2 * c .before .before .before .loop .n + 1) 0 < 256
-low-byte c =
-    let a = c .before .before .before .before .before .before .before .before .args in
-    omega (arith, c .shared-slice-known3 .given (a .at + 2 * c .before .before .before .loop .n + 1))
-
-low-digit : (c : tie.After-shared-slice-known3 Inv-loop μ-loop) →
-    let v = c .before .before .before .before .before in
-    let b = getD (v .before .before .before .args .s .now) (v .before .before .before .args .at + 2 * c .before .before .before .loop .n + 1) 0 in
-    getD (v .values .result) b 0 ≡ digit b
-low-digit c = c .before .before .before .before .before .values .ensures _ (low-byte c)
-
 loop-again : tie.Need-loop-again Inv-loop μ-loop
 loop-again c =
-    let two = c .before .before in
-    let l = two .before .before .before .loop in
-    let a = two .before .before .before .before .before .before .before .before .args in
+    let low = c .before .before in
+    let high = low .before .before in
+    let l = high .before .before .before .loop in
+    let a = high .before .before .before .before .before .before .before .args in
     let e =
-    rest-pair (a .s .now) (a .at) (length (a .out .now)) (l .n) _ _ (omega arith) (omega arith) (high-digit (two .before)) (low-digit two) (c .before .if1 .left) (c .if2 .left) in (
+    rest-pair (a .s .now) (a .at) (length (a .out .now)) (l .n) _ _ (omega arith) (omega arith) (high .value .ensures) (low .value2 .ensures)
+    (c .before .if1 .left) (c .if2 .left) in (
       omega arith,
       l .inv .1,
       l .inv .2,
@@ -80,32 +55,30 @@ done out₀ out left all n e f z = (omega (arith, ap length z), sym (laid-none o
 
 high : tie.Need-returns Inv-loop μ-loop
 high c =
-    let two = c .before in
-    let l = two .before .before .before .loop in
-    let a = two .before .before .before .before .before .before .before .before .args in
+    let high = c .before .before .before in
+    let l = high .before .before .before .loop in
+    let a = high .before .before .before .before .before .before .before .args in
     done _ _ _ _ _ (l .inv .4) (l .inv .5)
-    (rest-none _ _ _ (l .n) (unhex-high (a .s .now) (a .at + 2 * l .n) _ (omega arith) (high-digit (two .before)) (c .if1 .taken)))
+    (rest-none _ _ _ (l .n) (unhex-high (a .s .now) (a .at + 2 * l .n) _ (omega arith) (high .value .ensures) (c .if1 .taken)))
 
 low : tie.Need-returns-2 Inv-loop μ-loop
 low c =
-    let two = c .before .before in
-    let l = two .before .before .before .loop in
-    let a = two .before .before .before .before .before .before .before .before .args in
+    let low = c .before .before in
+    let l = low .before .before .before .before .before .loop in
+    let a = low .before .before .before .before .before .before .before .before .before .args in
     done _ _ _ _ _ (l .inv .4) (l .inv .5)
-    (rest-none _ _ _ (l .n) (unhex-low (a .s .now) (a .at + 2 * l .n) _ (omega arith) (low-digit two) (c .if2 .taken)))
+    (rest-none _ _ _ (l .n) (unhex-low (a .s .now) (a .at + 2 * l .n) _ (omega arith) (low .value2 .ensures) (c .if2 .taken)))
 
 all : tie.Need-returns-3 Inv-loop μ-loop
 all c =
     let l = c .before .loop in
     let m = c .before .before in
-    let a = m .before .before .before .before .args in
+    let a = m .before .before .before .args in
     done _ _ _ _ _ (l .inv .4) (l .inv .5) (rest-end (a .s .now) (a .at) (length (a .out .now)) (l .n) (omega (arith, m .most .ensures)))
 
 pub decode-spec : {M : Type 1} → statement M
 decode-spec =
     tie.close
-    (tie.spec Inv-loop μ-loop (λ c κs. search needs) (λ c κs. search needs) loop-holds (λ c. search needs) (λ c. search needs) (λ c. search needs)
-    (λ c. omega (arith, high-byte c)) high-byte (λ c. search needs) (λ c. search needs) (λ c. search needs) (λ c. search needs)
-    (λ c. omega (arith, low-byte c)) low-byte
-    (λ c. search needs) high (λ c. search needs) low
+    (tie.spec Inv-loop μ-loop (λ c κs. search needs) loop-holds (λ c. search needs) (λ c. search needs) (λ c. search needs) (λ c κs. search needs)
+    (λ c. search needs) (λ c. search needs) (λ c. search needs) (λ c. search needs) (λ c κs. search needs) (λ c. search needs) high (λ c. search needs) low
     (λ c. search needs) (λ c. search needs) (λ c. search needs) (λ c. search needs) (λ c. search needs) loop-again (λ c. search needs) all)
