@@ -1,29 +1,33 @@
 // The answer to one line, stored into a buffer. The functions ask for room (`requires`).
 ghost use Rattle.octets.specs.Words.{_+_, _≤_, _<_, [], _∷_, _++_, length};
-ghost use Rattle.header.specs.Read.{readHeader, readOutcome};
-ghost use Rattle.line_answer.specs.Answer.{decimal, told, bad, answer};
+ghost use Rattle.line_cutter.specs.Line.{lineFeed};
+ghost use Rattle.line_answer.specs.Answer.{decimal, told, said, bad, answer};
 ghost use Rattle.octets.specs.Stored.{Stored};
 use header::Header;
 use hex::decode;
-use line_cutter::copy;
+use line_cutter::LINE_MOST;
 use line_cutter::find;
 use octets::Outcome;
+use octets::copy;
+
+// The most bytes that the digits of a line can stand for.
+pub const FRAME_MOST: usize = 512;
 
 // Stores a number below 100 in decimal and a line feed.
 fn put_length(k: usize, out: &mut [u8], at: usize) -> usize
     requires { ⌜ k < 100 ⌝ }
     requires { ⌜ at + 3 ≤ length (now out) ⌝ }
-    ensures { λ r. ⌜ Stored (now (out .entry)) at (decimal k ++ (10 ∷ [])) (now (out .exit)) r ⌝ }
+    ensures { λ r. ⌜ Stored (now (out .entry)) at (decimal k ++ (lineFeed ∷ [])) (now (out .exit)) r ⌝ }
     ensures { λ r. ⌜ r ≤ at + 3 ⌝ }
 {
     if k < 10 {
-        out[at] = 48 + k as u8;
-        out[at + 1] = 10;
+        out[at] = b'0' + k as u8;
+        out[at + 1] = b'\n';
         return at + 2;
     }
-    out[at] = 48 + (k / 10) as u8;
-    out[at + 1] = 48 + (k % 10) as u8;
-    out[at + 2] = 10;
+    out[at] = b'0' + (k / 10) as u8;
+    out[at + 1] = b'0' + (k % 10) as u8;
+    out[at + 2] = b'\n';
     at + 3
 }
 
@@ -35,9 +39,9 @@ fn put_told(o: Outcome, out: &mut [u8], at: usize) -> usize
     ensures { λ r. ⌜ Stored (now (out .entry)) at (told o) (now (out .exit)) r ⌝ }
     ensures { λ r. ⌜ r ≤ at + 6 ⌝ }
 {
-    out[at] = 9;
-    out[at + 1] = 48 + o.number;
-    out[at + 2] = 9;
+    out[at] = b'\t';
+    out[at + 1] = b'0' + o.number;
+    out[at + 2] = b'\t';
     put_length(o.length, out, at + 3)
 }
 
@@ -46,17 +50,17 @@ fn put_bad(out: &mut [u8], at: usize) -> usize
     ensures { λ r. ⌜ Stored (now (out .entry)) at bad (now (out .exit)) r ⌝ }
     ensures { λ r. ⌜ r ≤ at + 4 ⌝ }
 {
-    out[at] = 98;
-    out[at + 1] = 97;
-    out[at + 2] = 100;
-    out[at + 3] = 10;
+    out[at] = b'b';
+    out[at + 1] = b'a';
+    out[at + 2] = b'd';
+    out[at + 3] = b'\n';
     at + 4
 }
 
 // Stores the answer to a line that is not bad, from its label and its bytes. Asks for room: the label and six bytes.
 pub fn put_good(label: &[u8], frame: &[u8], out: &mut [u8], at: usize) -> usize
     requires { ⌜ at + length (now label) + 6 ≤ length (now out) ⌝ }
-    ensures { λ r. ⌜ Stored (now (out .entry)) at (now (label .entry) ++ told (readOutcome (readHeader (now (frame .entry))))) (now (out .exit)) r ⌝ }
+    ensures { λ r. ⌜ Stored (now (out .entry)) at (now (label .entry) ++ said (now (frame .entry))) (now (out .exit)) r ⌝ }
     ensures { λ r. ⌜ r ≤ at + length (now (label .entry)) + 6 ⌝ }
 {
     let read = Header::read(frame);
@@ -71,11 +75,11 @@ pub fn put_answer(line: &[u8], out: &mut [u8], at: usize) -> usize
     ensures { λ r. ⌜ Stored (now (out .entry)) at (answer (now (line .entry))) (now (out .exit)) r ⌝ }
     ensures { λ r. ⌜ r ≤ at + length (now (line .entry)) + 5 ⌝ }
 {
-    let mut frame = [0u8; 512];
-    if line.len() > 1024 {
+    let mut frame = [0u8; FRAME_MOST];
+    if line.len() > LINE_MOST {
         return put_bad(out, at);
     }
-    let tab = find(line, 0, 9, 9);
+    let tab = find(line, 0, b'\t', b'\t');
     if tab >= line.len() {
         return put_bad(out, at);
     }

@@ -1,3 +1,2 @@
-pub mod Output
-pub mod Cut
 pub mod Quick
+pub mod Whole

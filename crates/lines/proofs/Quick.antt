@@ -10,16 +10,17 @@ use lib.Dec.{ltb}
 use lib.ListN.{length, getD, take, drop, length-append, length-drop}
 use lib.Seq.{split-at, getD-drop, drop-drop, length-take-le}
 use Rattle.octets.proofs.Cases.{cases, holds?}
-use Rattle.line_cutter.specs.Line.{before}
+use Rattle.octets.proofs.Lists.{take-again}
+use Rattle.line_cutter.specs.Answers.{fedTo}
+use Rattle.line_cutter.specs.Line.{lineMost, before}
 use Rattle.line_cutter.proofs.Line.{Free, free-append, free-first, free-second, before-part}
 use Rattle.hex.specs.Hex.{unhex, decoded}
 use Rattle.hex.proofs.Hex.{unhex-take, whole-good}
-use Rattle.header.specs.Read.{readHeader, readOutcome}
-use Rattle.line_answer.specs.Answer.{told}
+use Rattle.line_answer.specs.Answer.{said, answer}
 use Rattle.octets.specs.Stored.{Stored}
-use Rattle.lines.specs.Output.{fedTo, isAt}
+use Rattle.lines.specs.Place.{isAt}
 use Rattle.line_answer.proofs.Answer.{feed-foreign, foreign-free, answer-good}
-use Rattle.lines.proofs.Output.{fed-line}
+use Rattle.line_cutter.proofs.Answers.{fed-line}
 use Rattle.octets.proofs.Stored.{same}
 
 -- a byte is there, and is the one
@@ -29,12 +30,6 @@ there s i b h =
     (λ e. (ltb-true i (length s) e, eqb-true (getD s i 0) b (simp e at h)))
     (λ e. absurd (false≢true (simp e at h)))
 
--- a front as long as a front is that front
-take-again : (k : ℕ) (u : List ℕ) → take (length (take k u)) u ≡ take k u
-take-again zero u = refl
-take-again (suc k) [] = refl
-take-again (suc k) (b ∷ u) = ap (λ (l : List ℕ). b ∷ l) (take-again k u)
-
 -- a list parted at a place, of which a part behind another is a part of the whole
 parted : (s : List ℕ) (at i p b : ℕ) → p ≡ at + i → p < length s → getD s p 0 ≡ b → drop at s ≡ take i (drop at s) ++ (b ∷ drop (p + 1) s)
 parted s at i p b e h g =
@@ -43,7 +38,7 @@ parted s at i p b e h g =
     split-at (drop at s) i 0 k ∙ rw (getD-drop at s i 0, sym e, g, drop-drop (suc i) at s, f)
 
 module _ (chunk : List ℕ) (at tab n : ℕ) (e : tab ≡ at + length (before 9 10 (drop at chunk))) (t : isAt chunk tab 9 ≡ true)
-    (f : n ≡ length (decoded chunk (tab + 1) 512)) (g : isAt chunk (tab + 1 + 2 * n) 10 ≡ true) (h : tab + 1 + 2 * n - at ≤ 1024) where
+    (f : n ≡ length (decoded chunk (tab + 1) 512)) (g : isAt chunk (tab + 1 + 2 * n) 10 ≡ true) (h : tab + 1 + 2 * n - at ≤ lineMost) where
   label : List ℕ
   label = take (tab - at) (drop at chunk)
 
@@ -78,7 +73,7 @@ module _ (chunk : List ℕ) (at tab n : ℕ) (e : tab ≡ at + length (before 9 
   label-length : length label ≡ tab - at
   label-length = omega (arith, ap length label-before)
 
-  short : length (label ++ (9 ∷ digits)) ≤ 1024
+  short : length (label ++ (9 ∷ digits)) ≤ lineMost
   short = rw length-append (omega (arith, label-length, digits-length))
 
   no-tab : Free 9 label
@@ -90,10 +85,10 @@ module _ (chunk : List ℕ) (at tab n : ℕ) (e : tab ≡ at + length (before 9 
       (refl, foreign-free 10 digits feed-foreign (whole-good digits digits-whole .1))
 
   pub quick-fed : (out o : List ℕ) (u r : ℕ) →
-      Stored out u (take (tab - at) (drop at chunk) ++ told (readOutcome (readHeader (decoded chunk (tab + 1) 512)))) o r →
-      fedTo [] (drop (tab + 1 + 2 * n + 1) chunk) o r ≡ fedTo [] (drop at chunk) out u
+      Stored out u (take (tab - at) (drop at chunk) ++ said (decoded chunk (tab + 1) 512)) o r →
+      fedTo answer [] (drop (tab + 1 + 2 * n + 1) chunk) o r ≡ fedTo answer [] (drop at chunk) out u
   unfolding label
   quick-fed out o u r s =
-      let a = ap (λ (l : List ℕ). label ++ told (readOutcome (readHeader l))) (sym digits-bytes) ∙ sym (answer-good label digits no-tab short digits-whole) in
-      fed-line (label ++ (9 ∷ digits)) [] (drop (tab + 1 + 2 * n + 1) chunk) out o u r no-feed (same a s)
-      ∙ ap (λ (l : List ℕ). fedTo [] l out u) (sym laid-out)
+      let a = ap (λ (l : List ℕ). label ++ said l) (sym digits-bytes) ∙ sym (answer-good label digits no-tab short digits-whole) in
+      fed-line answer (label ++ (9 ∷ digits)) [] (drop (tab + 1 + 2 * n + 1) chunk) out o u r no-feed (same a s)
+      ∙ ap (λ (l : List ℕ). fedTo answer [] l out u) (sym laid-out)

@@ -1,12 +1,17 @@
 // The line program on slices: what a chunk of the input adds to the output, and what its end adds. The functions ask
-// for room (`requires`); the line at hand is the first n bytes of a buffer of 1,025, one more than the longest line.
+// for room (`requires`); the line at hand is the first n bytes of a buffer of KEPT_MOST.
 ghost use Rattle.octets.specs.Words.{_+_, _-_, _*_, _≤_, _<_, [], _++_, _≡_, length, take, drop, replicate};
-ghost use Rattle.line_cutter.specs.Lines.{last};
 ghost use Rattle.octets.specs.Stored.{Stored};
-ghost use Rattle.lines.specs.Output.{isAt, Onward, answers, fedTo};
+ghost use Rattle.line_cutter.specs.Answers.{Onward, answers, fedTo};
+ghost use Rattle.line_cutter.specs.Line.{keptMost};
+ghost use Rattle.line_cutter.specs.Lines.{last};
+ghost use Rattle.line_answer.specs.Answer.{answer};
+ghost use Rattle.lines.specs.Place.{isAt};
 use hex::decode;
+use line_answer::FRAME_MOST;
 use line_answer::put_answer;
 use line_answer::put_good;
+use line_cutter::LINE_MOST;
 use line_cutter::cut;
 use line_cutter::find;
 
@@ -25,12 +30,15 @@ struct Step {
 
 // Takes a chunk from a place on up to the end of the line at hand, and stores the answer to that line where it ends.
 fn put_line(chunk: &[u8], at: usize, line: &mut [u8], n: usize, out: &mut [u8], used: usize) -> Step
-    requires { ⌜ n ≤ 1025 ⌝ }
-    requires { ⌜ length (now line) ≡ 1025 ⌝ }
+    requires { ⌜ n ≤ keptMost ⌝ }
+    requires { ⌜ length (now line) ≡ keptMost ⌝ }
     requires { ⌜ at < length (now chunk) ⌝ }
     requires { ⌜ used + n + 5 * (length (now chunk) - at) ≤ length (now out) ⌝ }
-    ensures { λ r. ⌜ fedTo (take (r .n) (now (line .exit))) (drop (r .at) (now (chunk .entry))) (now (out .exit)) (r .used) ≡ fedTo (take n (now (line .entry))) (drop at (now (chunk .entry))) (now (out .entry)) used ⌝ }
-    ensures { λ r. ⌜ Onward (length (now (chunk .entry))) n used at (r .n) (r .used) (r .at) ⌝ }
+    ensures { λ r. ⌜ fedTo answer (take (r .n) (now (line .exit))) (drop (r .at) (now (chunk .entry))) (now (out .exit)) (r .used)
+        ≡ fedTo answer (take n (now (line .entry))) (drop at (now (chunk .entry))) (now (out .entry)) used ⌝ }
+    ensures { λ r. ⌜ Onward (length (now (chunk .entry))) at (r .n) (r .at) ⌝ }
+    ensures { λ r. ⌜ r .used + r .n + 5 * (length (now (chunk .entry)) - r .at)
+        ≤ used + n + 5 * (length (now (chunk .entry)) - at) ⌝ }
 {
     let taken = cut(chunk, at, line, n);
     let kept = taken.n;
@@ -61,22 +69,23 @@ fn put_quick(chunk: &[u8], at: usize, frame: &mut [u8], out: &mut [u8], used: us
     requires { ⌜ at ≤ length (now chunk) ⌝ }
     requires { ⌜ length (now frame) ≡ 512 ⌝ }
     requires { ⌜ used + 5 * (length (now chunk) - at) ≤ length (now out) ⌝ }
-    ensures { λ r. ⌜ fedTo [] (drop (r .at) (now (chunk .entry))) (now (out .exit)) (r .used) ≡ fedTo [] (drop at (now (chunk .entry))) (now (out .entry)) used ⌝ }
+    ensures { λ r. ⌜ fedTo answer [] (drop (r .at) (now (chunk .entry))) (now (out .exit)) (r .used)
+        ≡ fedTo answer [] (drop at (now (chunk .entry))) (now (out .entry)) used ⌝ }
     ensures { λ r. ⌜ r .n ≡ 0 ⌝ }
     ensures { λ r. ⌜ at ≤ r .at ⌝ }
     ensures { λ r. ⌜ r .at ≤ length (now (chunk .entry)) ⌝ }
     ensures { λ r. ⌜ r .used + 5 * (length (now (chunk .entry)) - r .at) ≤ used + 5 * (length (now (chunk .entry)) - at) ⌝ }
 {
-    let tab = find(chunk, at, 9, 10);
-    if !is_at(chunk, tab, 9) {
+    let tab = find(chunk, at, b'\t', b'\n');
+    if !is_at(chunk, tab, b'\t') {
         return Step { n: 0, used, at };
     }
     let n = decode(chunk, tab + 1, frame);
     let end = tab + 1 + 2 * n;
-    if !is_at(chunk, end, 10) {
+    if !is_at(chunk, end, b'\n') {
         return Step { n: 0, used, at };
     }
-    if end - at > 1024 {
+    if end - at > LINE_MOST {
         return Step { n: 0, used, at };
     }
     let next = put_good(&chunk[at..tab], &frame[..n], out, used);
@@ -97,13 +106,16 @@ fn put_next(
     out: &mut [u8],
     used: usize,
 ) -> Step
-    requires { ⌜ n ≤ 1025 ⌝ }
-    requires { ⌜ length (now line) ≡ 1025 ⌝ }
+    requires { ⌜ n ≤ keptMost ⌝ }
+    requires { ⌜ length (now line) ≡ keptMost ⌝ }
     requires { ⌜ at < length (now chunk) ⌝ }
     requires { ⌜ length (now frame) ≡ 512 ⌝ }
     requires { ⌜ used + n + 5 * (length (now chunk) - at) ≤ length (now out) ⌝ }
-    ensures { λ r. ⌜ fedTo (take (r .n) (now (line .exit))) (drop (r .at) (now (chunk .entry))) (now (out .exit)) (r .used) ≡ fedTo (take n (now (line .entry))) (drop at (now (chunk .entry))) (now (out .entry)) used ⌝ }
-    ensures { λ r. ⌜ Onward (length (now (chunk .entry))) n used at (r .n) (r .used) (r .at) ⌝ }
+    ensures { λ r. ⌜ fedTo answer (take (r .n) (now (line .exit))) (drop (r .at) (now (chunk .entry))) (now (out .exit)) (r .used)
+        ≡ fedTo answer (take n (now (line .entry))) (drop at (now (chunk .entry))) (now (out .entry)) used ⌝ }
+    ensures { λ r. ⌜ Onward (length (now (chunk .entry))) at (r .n) (r .at) ⌝ }
+    ensures { λ r. ⌜ r .used + r .n + 5 * (length (now (chunk .entry)) - r .at)
+        ≤ used + n + 5 * (length (now (chunk .entry)) - at) ⌝ }
 {
     if n > 0 {
         return put_line(chunk, at, line, n, out, used);
@@ -118,14 +130,15 @@ fn put_next(
 // A chunk of the input: stores the answers to the lines that end in it, and keeps what has come of the next line;
 // behind that the line buffer holds what it happens to.
 fn feed_lines(chunk: &[u8], line: &mut [u8], n: usize, out: &mut [u8]) -> Fed
-    requires { ⌜ n ≤ 1025 ⌝ }
-    requires { ⌜ length (now line) ≡ 1025 ⌝ }
-    requires { ⌜ 1025 + 5 * length (now chunk) ≤ length (now out) ⌝ }
-    ensures { λ r. ⌜ record { out = now (out .exit); used = r .used; kept = take (r .n) (now (line .exit)) } ≡ fedTo (take n (now (line .entry))) (now (chunk .entry)) (now (out .entry)) 0 ⌝ }
-    ensures { λ r. ⌜ r .n ≤ 1025 ⌝ }
+    requires { ⌜ n ≤ keptMost ⌝ }
+    requires { ⌜ length (now line) ≡ keptMost ⌝ }
+    requires { ⌜ keptMost + 5 * length (now chunk) ≤ length (now out) ⌝ }
+    ensures { λ r. ⌜ record { out = now (out .exit); used = r .used; kept = take (r .n) (now (line .exit)) }
+        ≡ fedTo answer (take n (now (line .entry))) (now (chunk .entry)) (now (out .entry)) 0 ⌝ }
+    ensures { λ r. ⌜ r .n ≤ keptMost ⌝ }
     ensures { λ r. ⌜ r .used ≤ length (now (out .entry)) ⌝ }
 {
-    let mut frame = [0u8; 512];
+    let mut frame = [0u8; FRAME_MOST];
     let mut held = n;
     let mut used = 0;
     let mut at = 0;
@@ -151,14 +164,15 @@ fn blank(line: &mut [u8], from: usize)
 
 // A chunk of the input, of any length: stores the answers to the lines that end in it, from the beginning of out, and
 // keeps what has come of the next line, its first 1,025 bytes, with zeros behind it. Asks for a line of 1,025 bytes
-// with at most as many in use, and for room: five bytes for each of the chunk, and 1,025.
+// with at most as many in use, and for room: five bytes for each of the chunk, and KEPT_MOST.
 pub fn feed(chunk: &[u8], line: &mut [u8], n: usize, out: &mut [u8]) -> Fed
-    requires { ⌜ n ≤ 1025 ⌝ }
-    requires { ⌜ length (now line) ≡ 1025 ⌝ }
-    requires { ⌜ 1025 + 5 * length (now chunk) ≤ length (now out) ⌝ }
-    ensures { λ r. ⌜ record { out = now (out .exit); used = r .used; kept = take (r .n) (now (line .exit)) } ≡ fedTo (take n (now (line .entry))) (now (chunk .entry)) (now (out .entry)) 0 ⌝ }
-    ensures { λ r. ⌜ (r .n ≤ 1025) × (r .used ≤ length (now (out .entry))) ⌝ }
-    ensures { λ r. ⌜ now (line .exit) ≡ take (r .n) (now (line .exit)) ++ replicate (1025 - r .n) 0 ⌝ }
+    requires { ⌜ n ≤ keptMost ⌝ }
+    requires { ⌜ length (now line) ≡ keptMost ⌝ }
+    requires { ⌜ keptMost + 5 * length (now chunk) ≤ length (now out) ⌝ }
+    ensures { λ r. ⌜ record { out = now (out .exit); used = r .used; kept = take (r .n) (now (line .exit)) }
+        ≡ fedTo answer (take n (now (line .entry))) (now (chunk .entry)) (now (out .entry)) 0 ⌝ }
+    ensures { λ r. ⌜ (r .n ≤ keptMost) × (r .used ≤ length (now (out .entry))) ⌝ }
+    ensures { λ r. ⌜ now (line .exit) ≡ take (r .n) (now (line .exit)) ++ replicate (keptMost - r .n) 0 ⌝ }
 {
     let fed = feed_lines(chunk, line, n, out);
     blank(line, fed.n);
@@ -170,7 +184,7 @@ pub fn feed(chunk: &[u8], line: &mut [u8], n: usize, out: &mut [u8]) -> Fed
 pub fn finish(line: &[u8], n: usize, out: &mut [u8]) -> usize
     requires { ⌜ n ≤ length (now line) ⌝ }
     requires { ⌜ n + 5 ≤ length (now out) ⌝ }
-    ensures { λ r. ⌜ Stored (now (out .entry)) 0 (answers (last (take n (now (line .entry))))) (now (out .exit)) r ⌝ }
+    ensures { λ r. ⌜ Stored (now (out .entry)) 0 (answers answer (last (take n (now (line .entry))))) (now (out .exit)) r ⌝ }
     ensures { λ r. ⌜ r ≤ n + 5 ⌝ }
 {
     if n == 0 {

@@ -5,18 +5,19 @@ use native.Mathlib.Omega.{arith}
 use mathlib.Core.Path.{_≡_}
 use borrow.Author.Needs.{needs}
 use lib.ListN.{length, length-replicate}
+use Rattle.line_cutter.specs.Line.{keptMost}
 use Rattle.frames.proofs.main.Statement.{statement}
 use Rattle.frames.proofs.main.Tie as tie
 
 abbrev Inv-loop : tie.InvT-loop
 Inv-loop chunk₀ line₀ out₀ n₀ next₀ turns₀ chunk line out n next turns =
-    (length chunk ≡ 65536) × (length line ≡ 1025) × (length out ≡ 328705) × (n ≤ 1025)
+    (length chunk ≡ 65536) × (length line ≡ keptMost) × (length out ≡ 328705) × (n ≤ keptMost)
 
 abbrev μ-loop : tie.MeasureT-loop
 μ-loop chunk₀ line₀ out₀ n₀ next₀ turns₀ chunk line out n next turns = turns
 
 loop-holds : tie.Need-loop-holds Inv-loop μ-loop
-loop-holds c = (length-replicate {A = ℕ} 65536 0, length-replicate {A = ℕ} 1025 0, length-replicate {A = ℕ} 328705 0, omega arith)
+loop-holds c = (length-replicate {A = ℕ} 65536 0, length-replicate {A = ℕ} keptMost 0, length-replicate {A = ℕ} 328705 0, omega arith)
 
 pub main-spec : {M : Type 1} → statement M
 main-spec =

@@ -31,7 +31,7 @@ small c κs =
     let k = c .before .before .before in
     let o = k .before .before in
     let a = o .before .before .before .before .before .args in
-    (rw (says o) (read-number (a .frame .now)), rw (says o) (read-length (a .frame .now)), omega (arith, copied k .next, k .copy .kept .1 .0))
+    (rw (says o) (read-number (a .frame .now)), (rw (says o) (read-length (a .frame .now)), omega (arith, copied k .next, k .copy .kept .1 .0)))
 
 returns : tie.Need-returns
 returns c =

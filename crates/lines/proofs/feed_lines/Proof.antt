@@ -7,20 +7,22 @@ use mathlib.Core.Path.{_≡_, refl, sym, ap, _∙_}
 use borrow.Author.Needs.{needs}
 use lib.ListN.{length, take, drop, length-replicate, drop-of-length-le}
 use lib.Seq.{length-take-le}
-use Rattle.lines.specs.Output.{fedTo}
-use Rattle.lines.proofs.Output.{fed-done}
+use Rattle.line_cutter.specs.Answers.{fedTo}
+use Rattle.line_cutter.specs.Line.{keptMost}
+use Rattle.line_cutter.proofs.Answers.{fed-done}
+use Rattle.line_answer.specs.Answer.{answer}
 use Rattle.lines.proofs.feed_lines.Statement.{statement}
 use Rattle.lines.proofs.feed_lines.Tie as tie
 
 abbrev Inv-loop : tie.InvT-loop
 Inv-loop chunk line₀ n out₀ frame₀ held₀ used₀ at₀ line out frame held used at =
     (at ≤ length chunk)
-    × (held ≤ 1025)
+    × (held ≤ keptMost)
     × (length line ≡ length line₀)
     × (length out ≡ length out₀)
     × (length frame ≡ 512)
-    × (used + held + 5 * (length chunk - at) ≤ 1025 + 5 * length chunk)
-    × (fedTo (take held line) (drop at chunk) out used ≡ fedTo (take n line₀) chunk out₀ 0)
+    × (used + held + 5 * (length chunk - at) ≤ keptMost + 5 * length chunk)
+    × (fedTo answer (take held line) (drop at chunk) out used ≡ fedTo answer (take n line₀) chunk out₀ 0)
 
 abbrev μ-loop : tie.MeasureT-loop
 μ-loop chunk line₀ n out₀ frame₀ held₀ used₀ at₀ line out frame held used at = length chunk - at
@@ -33,12 +35,12 @@ room c κs =
     let t = c .before .before .before in
     let l = t .before .loop in
     let p = t .before .before .before .before .before .pre in
-    (l .inv .1, l .inv .2 ∙ p .1, t .loop-test .taken, l .inv .4, omega (arith, l .inv .5, l .inv .3, p .2))
+    (l .inv .1, (l .inv .2 ∙ p .1 .0, (t .loop-test .taken, (l .inv .4, omega (arith, l .inv .5, l .inv .3, p .1 .1)))))
 
 loop-less : tie.Need-loop-less Inv-loop μ-loop
 loop-less c =
     let p = c .before .before .before .before .before in
-    omega (arith, p .put-next .ensures .1 .later, p .put-next .ensures .1 .within)
+    omega (arith, p .put-next .ensures .1 .0 .later, p .put-next .ensures .1 .0 .within)
 
 loop-again : tie.Need-loop-again Inv-loop μ-loop
 loop-again c =
@@ -46,12 +48,12 @@ loop-again c =
     let l = p .before .before .before .before .before .loop in
     let e = p .put-next .ensures in
     let k = p .put-next .kept in (
-      e .1 .within,
-      e .1 .small,
+      e .1 .0 .within,
+      e .1 .0 .small,
       k .1 .1 .0 ∙ l .inv .2,
       k .1 .1 .1 .1 .1 .0 ∙ l .inv .3,
       k .1 .1 .1 .1 .0 ∙ l .inv .4,
-      omega (arith, e .1 .room, l .inv .5),
+      omega (arith, e .1 .1, l .inv .5),
       e .0 ∙ l .inv .6,
     )
 
@@ -61,9 +63,9 @@ returns c =
     let s = c .before .before .before .before .before in
     let a = s .args in
     let e = drop-of-length-le (a .chunk .now) (c .loop-test .left) in
-    let h : length (take (l .held) (l .line)) ≤ 1025 = omega (arith, length-take-le (l .held) (l .line) (omega (arith, l .inv .1, l .inv .2, s .pre .1)), l .inv .1) in (
-      fed-done (take (l .held) (l .line)) (l .out) (l .used) h ∙ ap (λ (t : List ℕ). fedTo (take (l .held) (l .line)) t (l .out) (l .used)) (sym e) ∙ l .inv .6,
-      (l .inv .1, omega (arith, l .inv .5, l .inv .0, s .pre .2)),
+    let h : length (take (l .held) (l .line)) ≤ keptMost = omega (arith, length-take-le (l .held) (l .line) (omega (arith, l .inv .1, l .inv .2, s .pre .1 .0)), l .inv .1) in (
+      fed-done answer (take (l .held) (l .line)) (l .out) (l .used) h ∙ ap (λ (t : List ℕ). fedTo answer (take (l .held) (l .line)) t (l .out) (l .used)) (sym e) ∙ l .inv .6,
+      (l .inv .1, omega (arith, l .inv .5, l .inv .0, s .pre .1 .1)),
     )
 
 pub feed-lines-spec : {M : Type 1} → statement M

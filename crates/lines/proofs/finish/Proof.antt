@@ -5,7 +5,8 @@ use mathlib.Core.Path.{_≡_, sym}
 use borrow.Author.Needs.{needs}
 use lib.ListN.{length, take}
 use lib.Seq.{length-take-le}
-use Rattle.lines.proofs.Output.{last-none, last-some}
+use Rattle.line_cutter.proofs.Answers.{last-none, last-some}
+use Rattle.line_answer.specs.Answer.{answer}
 use Rattle.octets.proofs.Stored.{none, same}
 use Rattle.lines.proofs.finish.Statement.{statement}
 use Rattle.lines.proofs.finish.Tie as tie
@@ -15,13 +16,13 @@ long : (c : tie.Else1) → length (take (c .before .before .before .args .n) (c 
 long c = length-take-le _ _ (c .before .before .before .pre .0)
 
 nothing : tie.Need-returns
-nothing c = (same (last-none _ _ (c .if1 .taken)) (none _ _), omega arith)
+nothing c = (same (last-none answer _ _ (c .if1 .taken)) (none _ _), omega arith)
 
 some : tie.Need-returns-2
 some c =
     let p = c .before .before in
     let e = p .before .before .before in
-    (same (last-some _ (omega (arith, long e, e .if1 .left))) (p .put-answer .ensures .0), omega (arith, p .put-answer .ensures .1, long e))
+    (same (last-some answer _ (omega (arith, long e, e .if1 .left))) (p .put-answer .ensures .0), omega (arith, p .put-answer .ensures .1, long e))
 
 pub finish-spec : {M : Type 1} → statement M
 finish-spec =

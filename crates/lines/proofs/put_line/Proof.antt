@@ -6,7 +6,9 @@ use mathlib.Core.Path.{_≡_, sym}
 use borrow.Author.Needs.{needs}
 use lib.ListN.{length, take}
 use lib.Seq.{length-take-le}
-use Rattle.lines.proofs.Cut.{cut-small, cut-room, cut-ended, cut-open}
+use Rattle.line_cutter.proofs.Cutting.{cut-small, cut-used, cut-held, cut-ended, cut-open}
+use Rattle.line_answer.specs.Answer.{answer}
+use Rattle.line_answer.proofs.Answer.{answer-front}
 use Rattle.lines.proofs.put_line.Statement.{statement}
 use Rattle.lines.proofs.put_line.Tie as tie
 
@@ -15,8 +17,9 @@ within : (c : tie.After-cut) → c .cut .result .n ≤ length (c .cut .last .1 .
 within c =
     let s = c .before .before .before .before .before in
     let a = s .args in
-    let k = cut-small (a .chunk .now) (a .at) (a .line .now) (a .n) (c .cut .result) _ (c .cut .ensures .0) (c .cut .ensures .1) (s .pre .0) (s .pre .1) (s .pre .2) in
-    omega (arith, k .0, c .cut .kept .1 .1 .0, s .pre .1)
+    let k = cut-small (a .chunk .now) (a .at) (a .line .now) (a .n) (c .cut .result) _ (c .cut .ensures .0) (c .cut .ensures .1) (s .pre .0)
+    (s .pre .1 .0) (s .pre .1 .1 .0) in
+    omega (arith, k, c .cut .kept .1 .1 .0, s .pre .1 .0)
 
 whole : (c : tie.After-cut) → length (take (c .cut .result .n) (c .cut .last .1 .1 .0)) ≡ c .cut .result .n
 whole c = length-take-le _ _ (within c)
@@ -27,12 +30,9 @@ room c κs =
     let k = t .before .before .before in
     let s = k .before .before .before .before .before in
     let a = s .args in
-    omega (
-      arith,
-      whole k,
-      cut-room (a .chunk .now) (a .at) (a .line .now) (a .n) (k .cut .result) _ (k .cut .ensures .0) (k .cut .ensures .1) (s .pre .0) (s .pre .1) (s .pre .2) (t .if1 .taken),
-      s .pre .3,
-    )
+    let u = cut-used (a .chunk .now) (a .at) (a .line .now) (a .n) (k .cut .result) _ (k .cut .ensures .0) (k .cut .ensures .1) (s .pre .0)
+    (s .pre .1 .0) (s .pre .1 .1 .0) (t .if1 .taken) in
+    omega (arith, whole k, u .0, u .1, s .pre .1 .1 .0, s .pre .1 .1 .1)
 
 ended : tie.Need-returns
 ended c =
@@ -41,18 +41,22 @@ ended c =
     let k = t .before .before .before in
     let s = k .before .before .before .before .before in
     let a = s .args in
-    let r = cut-ended (a .chunk .now) (a .at) (a .line .now) (a .n) (k .cut .result) _ (k .cut .ensures .0) (k .cut .ensures .1) (s .pre .0) (s .pre .1) (s .pre .2)
-    (a .out .now) _ (a .used) (p .put-answer .result) (t .if1 .taken) (p .put-answer .ensures .0) (omega (arith, whole k, p .put-answer .ensures .1)) in
-    (r .0, r .1)
+    let u = cut-used (a .chunk .now) (a .at) (a .line .now) (a .n) (k .cut .result) _ (k .cut .ensures .0) (k .cut .ensures .1) (s .pre .0)
+    (s .pre .1 .0) (s .pre .1 .1 .0) (t .if1 .taken) in
+    let r = cut-ended (a .chunk .now) (a .at) (a .line .now) (a .n) (k .cut .result) _ (k .cut .ensures .0) (k .cut .ensures .1) (s .pre .0)
+    (s .pre .1 .0) (s .pre .1 .1 .0) answer answer-front (a .out .now) _ (a .used) (p .put-answer .result) (t .if1 .taken) (p .put-answer .ensures .0) in
+    (r .0, (r .1, omega (arith, whole k, p .put-answer .ensures .1, u .0, u .1, s .pre .1 .1 .0)))
 
 unended : tie.Need-returns-2
 unended c =
     let k = c .before .before .before in
     let s = k .before .before .before .before .before in
     let a = s .args in
-    let r = cut-open (a .chunk .now) (a .at) (a .line .now) (a .n) (k .cut .result) _ (k .cut .ensures .0) (k .cut .ensures .1) (s .pre .0) (s .pre .1) (s .pre .2)
-    (a .out .now) (a .used) (c .if1 .left) in
-    (r .0, r .1)
+    let h = cut-held (a .chunk .now) (a .at) (a .line .now) (a .n) (k .cut .result) _ (k .cut .ensures .0) (k .cut .ensures .1) (s .pre .0)
+    (s .pre .1 .0) (s .pre .1 .1 .0) (c .if1 .left) in
+    let r = cut-open (a .chunk .now) (a .at) (a .line .now) (a .n) (k .cut .result) _ (k .cut .ensures .0) (k .cut .ensures .1) (s .pre .0)
+    (s .pre .1 .0) (s .pre .1 .1 .0) answer answer-front (a .out .now) (a .used) (c .if1 .left) in
+    (r .0, (r .1, omega (arith, h, r .1 .later, r .1 .within)))
 
 pub put-line-spec : {M : Type 1} → statement M
 put-line-spec =

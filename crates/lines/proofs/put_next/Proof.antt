@@ -3,7 +3,8 @@
 use native.Mathlib.Omega.{arith}
 use mathlib.Core.Path.{_≡_, _∙_}
 use borrow.Author.Needs.{needs}
-use Rattle.lines.proofs.Output.{fed-empty, fed-still}
+use Rattle.line_cutter.proofs.Answers.{fed-empty, fed-still}
+use Rattle.line_answer.specs.Answer.{answer}
 use Rattle.lines.proofs.put_next.Statement.{statement}
 use Rattle.lines.proofs.put_next.Tie as tie
 
@@ -14,9 +15,12 @@ quick c =
     let a = t .before .before .before .before .before .args in
     let none : a .n ≡ 0 = omega (arith, t .if1 .left) in
     let e = q .put-quick .ensures in (
-      fed-empty (a .line .now) (a .chunk .now) (a .out .now) _ (q .put-quick .result .n) (a .n) (a .at) (q .put-quick .result .at) (a .used)
+      fed-empty answer (a .line .now) (a .chunk .now) (a .out .now) _ (q .put-quick .result .n) (a .n) (a .at) (q .put-quick .result .at) (a .used)
           (q .put-quick .result .used) (e .1 .0) none (e .0),
-      record { small = omega (arith, e .1 .0); later = c .if2 .taken; within = e .1 .2; room = omega (arith, e .1 .3, e .1 .0, none) },
+      (
+        record { small = omega (arith, e .1 .0); later = c .if2 .taken; within = e .1 .1 .1 .0 },
+        omega (arith, e .1 .1 .1 .1, e .1 .0, none),
+      ),
     )
 
 slow : tie.Need-returns-3
@@ -28,11 +32,11 @@ slow c =
     let a = t .before .before .before .before .before .args in
     let none : a .n ≡ 0 = omega (arith, t .if1 .left) in
     let e = q .put-quick .ensures in
-    let still : a .at ≡ q .put-quick .result .at = omega (arith, e .1 .1, f .if2 .left) in
-    let o = p .put-line2 .ensures .1 in (
-      p .put-line2 .ensures .0
-          ∙ fed-still (a .line .now) (a .chunk .now) (a .out .now) _ (a .n) (a .at) (q .put-quick .result .at) (a .used) (q .put-quick .result .used) none still (e .0),
-      record { small = o .small; later = o .later; within = o .within; room = omega (arith, o .room, e .1 .3, still) },
+    let still : a .at ≡ q .put-quick .result .at = omega (arith, e .1 .1 .0, f .if2 .left) in
+    let o = p .put-line2 .ensures in (
+      o .0
+          ∙ fed-still answer (a .line .now) (a .chunk .now) (a .out .now) _ (a .n) (a .at) (q .put-quick .result .at) (a .used) (q .put-quick .result .used) none still (e .0),
+      (o .1 .0, omega (arith, o .1 .1, e .1 .1 .1 .1, still)),
     )
 
 pub put-next-spec : {M : Type 1} → statement M

@@ -12,9 +12,8 @@ use lib.Seq.{length-take-le}
 use Rattle.octets.specs.Buffer.{laid}
 use Rattle.hex.specs.Hex.{decoded}
 use Rattle.hex.proofs.Hex.{decoded-room}
-use Rattle.header.specs.Read.{readHeader, readOutcome}
-use Rattle.line_answer.specs.Answer.{told}
-use Rattle.lines.specs.Output.{isAt}
+use Rattle.line_answer.specs.Answer.{said}
+use Rattle.lines.specs.Place.{isAt}
 use Rattle.lines.proofs.Quick.{there, quick-fed}
 use Rattle.octets.proofs.Stored.{same, front}
 use Rattle.lines.proofs.put_quick.Statement.{statement}
@@ -34,7 +33,7 @@ count : (c : tie.After-decode) →
 count c =
     let f = c .before .before .before .before in
     let s = f .before .before .before .before in
-    c .decode .ensures .0 ∙ ap (λ (k : ℕ). length (decoded (s .args .chunk .now) (f .find .result + 1) k)) (s .pre .1)
+    c .decode .ensures .0 ∙ ap (λ (k : ℕ). length (decoded (s .args .chunk .now) (f .find .result + 1) k)) (s .pre .1 .0)
 
 few : (c : tie.After-decode) → c .decode .result ≤ 512
 few c =
@@ -48,8 +47,8 @@ bytes c =
     let f = c .before .before .before .before in
     let s = f .before .before .before .before in
     ap (take (c .decode .result))
-    (c .decode .ensures .1 ∙ ap (λ (k : ℕ). laid (s .args .frame .now) 0 (decoded (s .args .chunk .now) (f .find .result + 1) k)) (s .pre .1))
-    ∙ front (s .args .frame .now) _ (c .decode .result) (sym (count c)) (omega (arith, few c, s .pre .1))
+    (c .decode .ensures .1 ∙ ap (λ (k : ℕ). laid (s .args .frame .now) 0 (decoded (s .args .chunk .now) (f .find .result + 1) k)) (s .pre .1 .0))
+    ∙ front (s .args .frame .now) _ (c .decode .result) (sym (count c)) (omega (arith, few c, s .pre .1 .0))
 
 -- a line feed ends the digits
 feed-there : (c : tie.Else2) →
@@ -95,22 +94,29 @@ good c =
     let a = s .args in (
       quick-fed (a .chunk .now) (a .at) (f .find .result) (d .decode .result) (f .find .ensures) (tab-there (d .before .before)) (count d) (feed-there e)
           (x .if3 .left) (a .out .now) _ (a .used) (p .put-good .result)
-          (same (ap (λ (u : List ℕ). take (f .find .result - a .at) (drop (a .at) (a .chunk .now)) ++ told (readOutcome (readHeader u))) (bytes d)) (p .put-good .ensures .0)),
-      (
-        refl,
-        omega (arith, f .find .ensures),
-        omega (arith, feed-within e),
-        omega (arith, p .put-good .ensures .1, label e, feed-within e, f .find .ensures),
-      ),
+          (same (ap (λ (u : List ℕ). take (f .find .result - a .at) (drop (a .at) (a .chunk .now)) ++ said u) (bytes d)) (p .put-good .ensures .0)),
+      (refl, (omega (arith, f .find .ensures), (omega (arith, feed-within e), omega (arith, p .put-good .ensures .1, label e, feed-within e, f .find .ensures)))),
     )
+
+abbrev start : tie.After-decode → tie.Start
+start c = c .before .before .before .before .before .before .before .before
+
+-- the quick way is not taken, and nothing has moved
+still : (c : tie.Start) →
+    let a = c .args in
+    let rest = a .used + 5 * (length (a .chunk .now) - a .at) in
+    (_≡_ {A = ℕ} 0 0) × ((a .at ≤ a .at) × ((a .at ≤ length (a .chunk .now)) × (rest ≤ rest)))
+still c = (refl, (omega arith, (c .pre .0, omega arith)))
 
 pub put-quick-spec : {M : Type 1} → statement M
 put-quick-spec =
     tie.close
-    (tie.spec (λ c κs. search needs) (λ c κs. search needs) (λ c. search needs) (λ c. omega (arith, tab-within c)) (λ c κs. search needs)
+    (tie.spec (λ c κs. search needs) (λ c κs. search needs) (λ c. (refl, still (c .before .before .before .before .before .before)))
+    (λ c. omega (arith, tab-within c)) (λ c κs. search needs)
     (λ c. omega (arith, tab-within (c .before .before .before .before))) (λ c. omega (arith, few (c .before .before)))
     (λ c. omega (arith, tab-within (c .before .before .before .before), few (c .before .before))) (λ c κs. search needs) (λ c. search needs)
-    (λ c. search needs) (λ c. search needs) (λ c. search needs) (λ c. search needs) (λ c. search needs) (λ c. search needs)
+    (λ c. (refl, still (start (c .before .before .before .before)))) (λ c. search needs) (λ c. search needs)
+    (λ c. (refl, still (start (c .before .before .before .before .before)))) (λ c. search needs) (λ c. search needs)
     (λ c. omega (arith, tab-within (c .before .before .before .before .before .before .before))) (λ c. search needs)
     (λ c. let d = c .before .before .before .before .before .before .before in count d ∙ sym (ap length (bytes d))) room (λ c. search needs)
     (λ c. search needs) (λ c. search needs) good)
