@@ -84,7 +84,7 @@ static uint8_t draw(void)
     state ^= state << 13;
     state ^= state >> 7;
     state ^= state << 17;
-    return state >> 56;
+    return (uint8_t)(state >> 56);
 }
 
 static size_t extent(unsigned choice, uint8_t drawn, unsigned most)
@@ -139,7 +139,8 @@ static void make_corpora(void)
 /* Blocks of random and damaged headers and beacons; then, for each length from 0 to LAST, every frame control before random bytes. */
 enum { BLOCKS = 1024, LAST = 41, CONTROLS = 65536, OUT = 128, BEFORE = 0xa5 };
 
-static uint64_t digest;
+/* Of the answers in a block, and how many frames they are for. */
+static uint64_t digest, answered;
 
 static void take(uint64_t n) { digest = (digest ^ n) * 0x100000001b3; }
 
@@ -152,6 +153,7 @@ static void answer(const struct frame *f, size_t room, reader *read, rewriter *r
     uint8_t out[OUT];
     memset(out, BEFORE, OUT);
     uint64_t length = told(read(f->bytes, f->length)), written = told(rewrite(f->bytes, f->length, out, room));
+    answered++;
     take(length);
     take(written);
     for (int k = 0; k < OUT && written < 1000; k++)
@@ -183,6 +185,7 @@ static void answer_block(uint64_t block, int spelled)
     struct frame f;
     state = 0x9e3779b97f4a7c15 * (2 * block + 1);
     digest = 0xcbf29ce484222325;
+    answered = 0;
     for (int i = 0; block < BLOCKS && i < FRAMES; i++) {
         make_header(&f);
         answer_header(&f, spelled);
@@ -198,12 +201,12 @@ static void answer_block(uint64_t block, int spelled)
     }
 }
 
-/* A digest for each block. */
+/* For each block its number, the digest, and how many frames it has. */
 static void answer_all(void)
 {
     for (uint64_t block = 0; block <= BLOCKS + LAST; block++) {
         answer_block(block, 0);
-        printf("%llu %016llx\n", (unsigned long long)block, (unsigned long long)digest);
+        printf("%llu %016llx %llu\n", (unsigned long long)block, (unsigned long long)digest, (unsigned long long)answered);
     }
 }
 

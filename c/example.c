@@ -23,13 +23,14 @@ static int take_charge(const unsigned char *frame, size_t length, unsigned char 
 
 int main(void)
 {
-    /* PAN id compression: a header of 9 bytes and one byte of charge. get_octet_size says 11, past the end of the frame. */
-    static const unsigned char january[] = {0x41, 0x88, 0x07, 0x34, 0x12, 0x01, 0x00, 0x02, 0x00, 0x57};
+    /* PAN id compression, the source has no PAN id of its own: a header of 9 bytes and one byte of charge. The Rust crate's get_octet_size says
+       11, past the end of the frame. */
+    static const unsigned char compressed[] = {0x41, 0x88, 0x07, 0x34, 0x12, 0x01, 0x00, 0x02, 0x00, 0x57};
     /* Compression, and no destination whose PAN id could be shared. */
     static const unsigned char unshared[] = {0x41, 0x80, 0x07, 0x02, 0x00, 0x57};
     unsigned char charge;
 
-    if (take_charge(january, sizeof january, &charge) != 0 || charge != 0x57)
+    if (take_charge(compressed, sizeof compressed, &charge) != 0 || charge != 0x57)
         return 1;
     return take_charge(unshared, sizeof unshared, &charge) == 0;
 }

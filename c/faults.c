@@ -19,7 +19,7 @@ size_t __wrap_knobtangle_rewrite_header(const byte *frame, size_t length, byte *
 size_t __wrap_knobtangle_rewrite_beacon(const byte *content, size_t length, byte *out, size_t room);
 
 enum fault {
-    OCTET_SIZE = 1,     /* the length of get_octet_size, as in January */
+    OCTET_SIZE = 1,     /* the length of get_octet_size: two too large where the source has no PAN id of its own */
     NO_OFFSET,          /* a refusal without its 1000 */
     LATE_COMPRESSION,   /* compression is judged after the source is read */
     EAGER_COMPRESSION,  /* compression without a source is refused on reading */

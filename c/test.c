@@ -424,8 +424,8 @@ static const struct row {
     {"15, 9 bytes", 1, "00 00 00 11 01 02 03 04 05 06 07 08 09", 1001, 1001, ""},
     {"15, 10 bytes", 1, "00 00 00 11 01 02 03 04 05 06 07 08 09 0A", 14, 14, "00 00 00 11 01 02 03 04 05 06 07 08 09 0A"},
     {"16", 0, "01 04 00", 1004, 1004, ""},
-    /* January's frame with its one byte of charge, and the longest header */
-    {"January", 0, "41 88 07 34 12 01 00 02 00 57", 9, 9, "41 88 07 34 12 01 00 02 00"},
+    /* a frame whose source has no PAN id of its own, so that get_octet_size is two too large, with a byte of charge; and the longest header */
+    {"compressed, with a charge", 0, "41 88 07 34 12 01 00 02 00 57", 9, 9, "41 88 07 34 12 01 00 02 00"},
     {"longest", 0, "89 CD 01 34 12 01 02 03 04 05 06 07 08 35 12 11 12 13 14 15 16 17 18 FD 01 00 00 00 A1 A2 A3 A4 A5 A6 A7 A8 07", 37, 37,
      "09 CC 01 34 12 01 02 03 04 05 06 07 08 35 12 11 12 13 14 15 16 17 18 1D 01 00 00 00 A1 A2 A3 A4 A5 A6 A7 A8 07"},
 };
