@@ -6,12 +6,12 @@ use native.Mathlib.Omega.{arith}
 use mathlib.Core.Bool.{true, false, _&&_, and-false, true≢false, false≢true}
 use mathlib.Core.List.{List, [], _∷_}
 use mathlib.Core.Path.{_≡_, refl, sym, ap, _∙_}
-use borrow.Author.Tests.{lt-ltb, le-ltb, ltb-true, ltb-false}
+use borrow.Author.Tests.{ltb-true, ltb-false}
 use lib.Dec.{ltb}
-use lib.ListN.{length, getD, take, drop, length-take, length-drop, drop-of-length-le}
+use lib.ListN.{length, getD, take, drop, length-take, drop-of-length-le}
 use lib.Seq.{drop-cons, take-nil}
 use Rattle.octets.proofs.Cases.{cases, holds?}
-use Rattle.hex.specs.Hex.{digit, isDigit, odd, foreign, unhex, decoded}
+use Rattle.hex.specs.Hex.{digit, isDigit, worth, odd, foreign, unhex, decoded}
 
 -- two elements and what follows them
 two : (s : List ℕ) (i : ℕ) → i + 1 < length s → drop i s ≡ getD s i 0 ∷ getD s (i + 1) 0 ∷ drop (i + 2) s
@@ -21,27 +21,41 @@ two s i h =
     let e : i + 2 ≡ suc (suc i) = omega arith in
     rw (e, add-one i, drop-cons s i 0 f, drop-cons s (suc i) 0 g)
 
--- two digits are a byte
-pub unhex-pair : (s : List ℕ) (i high low : ℕ) → i + 1 < length s → high ≡ digit (getD s i 0) → low ≡ digit (getD s (i + 1) 0) → high ≤ 15 → low ≤ 15 →
-    unhex (drop i s) ≡ (16 * high + low) ∷ unhex (drop (i + 2) s)
-unfolding unhex
-unhex-pair s i high low h e f g k =
-    let a : digit (getD s i 0) < 16 = omega (arith, e) in
-    let b : digit (getD s (i + 1) 0) < 16 = omega (arith, f) in
-    rw (two s i h, e, f) (simp (lt-ltb _ _ a, lt-ltb _ _ b))
+-- what a byte counts for in a pair
+pub worth-small : (b : ℕ) → worth b ≤ 256
+worth-small b = cases (holds? (isDigit b)) (λ e. simp e (omega (arith, ltb-true (digit b) 16 e))) (λ e. simp e (omega arith))
 
--- decoding stops at a byte that is no digit, and where fewer than two bytes are left
-pub unhex-high : (s : List ℕ) (i high : ℕ) → i + 1 < length s → high ≡ digit (getD s i 0) → 15 < high → unhex (drop i s) ≡ []
-unfolding unhex
-unhex-high s i high h e g =
-    let a : 16 ≤ digit (getD s i 0) = omega (arith, e) in
-    rw (two s i h) (simp (le-ltb _ _ a))
+-- a pair that is no more than a byte is two digits, and is that byte
+pair-digits : (a b pair : ℕ) → pair ≡ 16 * worth a + worth b → pair ≤ 255 → (isDigit a ≡ true) × (isDigit b ≡ true)
+pair-digits a b pair e h =
+    cases (holds? (isDigit a))
+    (λ t. cases (holds? (isDigit b)) (λ u. (t, u)) (λ u. let f : pair ≡ 16 * worth a + 256 = simp u at e in absurd (omega arith)))
+    (λ t. let f : pair ≡ 16 * 256 + worth b = simp t at e in absurd (omega arith))
 
-pub unhex-low : (s : List ℕ) (i low : ℕ) → i + 1 < length s → low ≡ digit (getD s (i + 1) 0) → 15 < low → unhex (drop i s) ≡ []
+pub unhex-pair : (s : List ℕ) (i pair : ℕ) → i + 1 < length s → pair ≡ 16 * worth (getD s i 0) + worth (getD s (i + 1) 0) → pair ≤ 255 →
+    unhex (drop i s) ≡ pair ∷ unhex (drop (i + 2) s)
 unfolding unhex
-unhex-low s i low h e g =
-    let a : 16 ≤ digit (getD s (i + 1) 0) = omega (arith, e) in
-    rw (two s i h) (simp (le-ltb _ _ a, and-false))
+unhex-pair s i pair h e g =
+    let d = pair-digits (getD s i 0) (getD s (i + 1) 0) pair e g in
+    let f : pair ≡ 16 * digit (getD s i 0) + digit (getD s (i + 1) 0) = simp (d .0, d .1) at e in
+    rw (two s i h) (simp (d .0, d .1) (ap (λ (b : ℕ). b ∷ unhex (drop (i + 2) s)) (sym f)))
+
+-- decoding stops at any other pair, and where fewer than two bytes are left
+pub unhex-other : (s : List ℕ) (i pair : ℕ) → i + 1 < length s → pair ≡ 16 * worth (getD s i 0) + worth (getD s (i + 1) 0) → 255 < pair →
+    unhex (drop i s) ≡ []
+unfolding unhex
+unhex-other s i pair h e g =
+    let a = getD s i 0 in
+    let b = getD s (i + 1) 0 in
+    rw (two s i h)
+    (cases (holds? (isDigit a))
+    (λ t.
+    cases (holds? (isDigit b))
+    (λ u.
+    let f : pair ≡ 16 * digit a + digit b = simp (t, u) at e in
+    absurd (omega (arith, ltb-true (digit a) 16 t, ltb-true (digit b) 16 u)))
+    (λ u. simp (u, and-false)))
+    (λ t. simp t))
 
 pub unhex-end : (s : List ℕ) (i : ℕ) → length s ≤ i + 1 → unhex (drop i s) ≡ []
 unfolding unhex
@@ -120,13 +134,12 @@ rest-all s at room =
     let f : at + 2 * 0 ≡ at = omega arith in
     rw (e, f)
 
-pub rest-pair : (s : List ℕ) (at room n high low : ℕ) → n < room → at + 2 * n + 1 < length s →
-    high ≡ digit (getD s (at + 2 * n) 0) → low ≡ digit (getD s (at + 2 * n + 1) 0) → high ≤ 15 → low ≤ 15 →
-    rest s at room n ≡ (16 * high + low) ∷ rest s at room (n + 1)
-rest-pair s at room n high low h k e f g j =
+pub rest-pair : (s : List ℕ) (at room n pair : ℕ) → n < room → at + 2 * n + 1 < length s →
+    pair ≡ 16 * worth (getD s (at + 2 * n) 0) + worth (getD s (at + 2 * n + 1) 0) → pair ≤ 255 → rest s at room n ≡ pair ∷ rest s at room (n + 1)
+rest-pair s at room n pair h k e g =
     let a : room - n ≡ suc (room - (n + 1)) = omega arith in
     let b : at + 2 * n + 2 ≡ at + 2 * (n + 1) = omega arith in
-    rw (unhex-pair s (at + 2 * n) high low k e f g j, a, b)
+    rw (unhex-pair s (at + 2 * n) pair k e g, a, b)
 
 pub rest-none : (s : List ℕ) (at room n : ℕ) → unhex (drop (at + 2 * n) s) ≡ [] → rest s at room n ≡ []
 rest-none s at room n e = rw (e, take-nil)

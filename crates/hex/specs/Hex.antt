@@ -1,6 +1,6 @@
 -- Bytes in hex: document 01, "Line program", "bytes in hex (either case, possibly none)" and "an odd or foreign digit".
-use Rattle.octets.specs.Words.{ℕ, _+_, _-_, _*_, _%_, Bool, true, false, cond, _&&_, List, [], _∷_, ltb, leb, eqb}
-use Rattle.octets.specs.Words.{length, take, drop}
+use Rattle.octets.specs.Words.{ℕ, _+_, _-_, _*_, _%_, _<_, Bool, true, false, cond, _&&_, List, [], _∷_, _≡_, ltb}
+use Rattle.octets.specs.Words.{leb, eqb, length, getD, take, drop}
 use Rattle.octets.specs.{Order.first}
 
 -- b is one of the count bytes from low on
@@ -13,6 +13,14 @@ digit b = first ((among 48 10 b, b - 48) ∷ (among 65 6 b, b - 55) ∷ (among 9
 
 abbrev pub isDigit : ℕ → Bool
 isDigit b = ltb (digit b) 16
+
+-- what a byte counts for in a pair: more than any pair where it is no digit
+abbrev pub worth : ℕ → ℕ
+worth b = cond (isDigit b) (digit b) 256
+
+-- a table of what each byte counts for
+abbrev pub Values : List ℕ → Type 0
+Values table = (b : ℕ) → b < 256 → getD table b 0 ≡ worth b
 
 -- a digit is left over
 abbrev pub odd : List ℕ → Bool

@@ -1,13 +1,13 @@
-// Bytes in hex, two digits of either case to a byte.
+// Bytes in hex, two digits of either case to a byte. The table of values is made once for many lines and lent.
 ghost use Rattle.octets.specs.Words.{_-_, _/_, min, _≡_, length};
 ghost use Rattle.octets.specs.Buffer.{laid};
-ghost use Rattle.hex.specs.Hex.{digit, decoded};
+ghost use Rattle.hex.specs.Hex.{worth, Values, decoded};
 use octets::least;
 use octets::left;
 
-// The value of a digit, and 16 of a byte that is none. The compiler makes one load of it.
-fn value(b: u8) -> u8
-    ensures { λ r. ⌜ r ≡ digit b ⌝ }
+// The value of a digit, and 256 of a byte that is none: with it a pair of digits is more than a byte.
+fn value(b: u8) -> u16
+    ensures { λ r. ⌜ r ≡ worth b ⌝ }
 {
     match b {
         b'0' => 0,
@@ -32,8 +32,21 @@ fn value(b: u8) -> u8
         b'd' => 13,
         b'e' => 14,
         b'f' => 15,
-        _ => 16,
+        _ => 256,
     }
+}
+
+// The value of each byte as a digit.
+pub fn values() -> [u16; 256]
+    ensures { λ r. ⌜ Values r ⌝ }
+{
+    let mut table = [0u16; 256];
+    let mut b = 0;
+    while b < 256 {
+        table[b] = value(b as u8);
+        b += 1;
+    }
+    table
 }
 
 // How many pairs of digits there can be from a place of s on, with room for a byte each.
@@ -45,23 +58,22 @@ fn most(s: &[u8], at: usize, room: usize) -> usize
 
 // Decodes the pairs of digits from a place of s on into out, up to the first pair that is not two digits or the end of
 // out's room, and returns how many bytes that gave. The digits are whole, neither odd nor foreign, where twice that
-// many end s.
-pub fn decode(s: &[u8], at: usize, out: &mut [u8]) -> usize
+// many end s. Asks that values has the value of each byte.
+pub fn decode(s: &[u8], at: usize, values: &[u16; 256], out: &mut [u8]) -> usize
+    requires { ⌜ Values (now values) ⌝ }
     ensures { λ r. ⌜ r ≡ length (decoded (now (s .entry)) at (length (now (out .entry)))) ⌝ }
     ensures { λ r. ⌜ now (out .exit) ≡ laid (now (out .entry)) 0 (decoded (now (s .entry)) at (length (now (out .entry)))) ⌝ }
 {
     let end = most(s, at, out.len());
     let mut n = 0;
     while n < end {
-        let high = value(s[at + 2 * n]);
-        let low = value(s[at + 2 * n + 1]);
-        if high > 15 {
+        let high = values[s[at + 2 * n] as usize];
+        let low = values[s[at + 2 * n + 1] as usize];
+        let pair = 16 * high + low;
+        if pair > 255 {
             return n;
         }
-        if low > 15 {
-            return n;
-        }
-        out[n] = 16 * high + low;
+        out[n] = pair as u8;
         n += 1;
     }
     n

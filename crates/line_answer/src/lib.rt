@@ -1,5 +1,6 @@
 // The answer to one line, stored into a buffer. The functions ask for room (`requires`).
 ghost use Rattle.octets.specs.Words.{_+_, _≤_, _<_, [], _∷_, _++_, length};
+ghost use Rattle.hex.specs.Hex.{Values};
 ghost use Rattle.line_cutter.specs.Line.{lineFeed};
 ghost use Rattle.line_answer.specs.Answer.{decimal, told, said, bad, answer};
 ghost use Rattle.octets.specs.Stored.{Stored};
@@ -69,9 +70,11 @@ pub fn put_good(label: &[u8], frame: &[u8], out: &mut [u8], at: usize) -> usize
     put_told(outcome, out, next)
 }
 
-// Stores the answer to a line, given without its line feed. Asks for room: the line and five bytes.
-pub fn put_answer(line: &[u8], out: &mut [u8], at: usize) -> usize
+// Stores the answer to a line, given without its line feed. Asks for the values of hex digits, and for room: the line
+// and five bytes.
+pub fn put_answer(line: &[u8], values: &[u16; 256], out: &mut [u8], at: usize) -> usize
     requires { ⌜ at + length (now line) + 5 ≤ length (now out) ⌝ }
+    requires { ⌜ Values (now values) ⌝ }
     ensures { λ r. ⌜ Stored (now (out .entry)) at (answer (now (line .entry))) (now (out .exit)) r ⌝ }
     ensures { λ r. ⌜ r ≤ at + length (now (line .entry)) + 5 ⌝ }
 {
@@ -83,7 +86,7 @@ pub fn put_answer(line: &[u8], out: &mut [u8], at: usize) -> usize
     if tab >= line.len() {
         return put_bad(out, at);
     }
-    let n = decode(line, tab + 1, &mut frame);
+    let n = decode(line, tab + 1, values, &mut frame);
     if tab + 1 + 2 * n != line.len() {
         return put_bad(out, at);
     }

@@ -2,12 +2,14 @@
 // for room (`requires`); the line at hand is the first n bytes of a buffer of KEPT_MOST.
 ghost use Rattle.octets.specs.Words.{_+_, _-_, _*_, _≤_, _<_, [], _++_, _≡_, length, take, drop, replicate};
 ghost use Rattle.octets.specs.Stored.{Stored};
+ghost use Rattle.hex.specs.Hex.{Values};
 ghost use Rattle.line_cutter.specs.Answers.{Onward, answers, fedTo};
 ghost use Rattle.line_cutter.specs.Line.{keptMost};
 ghost use Rattle.line_cutter.specs.Lines.{last};
 ghost use Rattle.line_answer.specs.Answer.{answer};
 ghost use Rattle.lines.specs.Place.{isAt};
 use hex::decode;
+use hex::values;
 use line_answer::FRAME_MOST;
 use line_answer::put_answer;
 use line_answer::put_good;
@@ -29,11 +31,20 @@ struct Step {
 }
 
 // Takes a chunk from a place on up to the end of the line at hand, and stores the answer to that line where it ends.
-fn put_line(chunk: &[u8], at: usize, line: &mut [u8], n: usize, out: &mut [u8], used: usize) -> Step
+fn put_line(
+    chunk: &[u8],
+    at: usize,
+    line: &mut [u8],
+    n: usize,
+    values: &[u16; 256],
+    out: &mut [u8],
+    used: usize,
+) -> Step
     requires { ⌜ n ≤ keptMost ⌝ }
     requires { ⌜ length (now line) ≡ keptMost ⌝ }
     requires { ⌜ at < length (now chunk) ⌝ }
     requires { ⌜ used + n + 5 * (length (now chunk) - at) ≤ length (now out) ⌝ }
+    requires { ⌜ Values (now values) ⌝ }
     ensures { λ r. ⌜ fedTo answer (take (r .n) (now (line .exit))) (drop (r .at) (now (chunk .entry))) (now (out .exit)) (r .used)
         ≡ fedTo answer (take n (now (line .entry))) (drop at (now (chunk .entry))) (now (out .entry)) used ⌝ }
     ensures { λ r. ⌜ Onward (length (now (chunk .entry))) at (r .n) (r .at) ⌝ }
@@ -43,7 +54,7 @@ fn put_line(chunk: &[u8], at: usize, line: &mut [u8], n: usize, out: &mut [u8], 
     let taken = cut(chunk, at, line, n);
     let kept = taken.n;
     if taken.ended {
-        let next = put_answer(&line[..kept], out, used);
+        let next = put_answer(&line[..kept], values, out, used);
         return Step {
             n: 0,
             used: next,
@@ -65,10 +76,18 @@ fn is_at(s: &[u8], i: usize, b: u8) -> bool
 
 // The quick way: where a line begins at a place of a chunk, ends in it and is not bad, stores its answer from where it
 // lies. Otherwise it stores nothing, and no byte is used.
-fn put_quick(chunk: &[u8], at: usize, frame: &mut [u8], out: &mut [u8], used: usize) -> Step
+fn put_quick(
+    chunk: &[u8],
+    at: usize,
+    values: &[u16; 256],
+    frame: &mut [u8],
+    out: &mut [u8],
+    used: usize,
+) -> Step
     requires { ⌜ at ≤ length (now chunk) ⌝ }
     requires { ⌜ length (now frame) ≡ 512 ⌝ }
     requires { ⌜ used + 5 * (length (now chunk) - at) ≤ length (now out) ⌝ }
+    requires { ⌜ Values (now values) ⌝ }
     ensures { λ r. ⌜ fedTo answer [] (drop (r .at) (now (chunk .entry))) (now (out .exit)) (r .used)
         ≡ fedTo answer [] (drop at (now (chunk .entry))) (now (out .entry)) used ⌝ }
     ensures { λ r. ⌜ r .n ≡ 0 ⌝ }
@@ -80,7 +99,7 @@ fn put_quick(chunk: &[u8], at: usize, frame: &mut [u8], out: &mut [u8], used: us
     if !is_at(chunk, tab, b'\t') {
         return Step { n: 0, used, at };
     }
-    let n = decode(chunk, tab + 1, frame);
+    let n = decode(chunk, tab + 1, values, frame);
     let end = tab + 1 + 2 * n;
     if !is_at(chunk, end, b'\n') {
         return Step { n: 0, used, at };
@@ -102,6 +121,7 @@ fn put_next(
     at: usize,
     line: &mut [u8],
     n: usize,
+    values: &[u16; 256],
     frame: &mut [u8],
     out: &mut [u8],
     used: usize,
@@ -111,6 +131,7 @@ fn put_next(
     requires { ⌜ at < length (now chunk) ⌝ }
     requires { ⌜ length (now frame) ≡ 512 ⌝ }
     requires { ⌜ used + n + 5 * (length (now chunk) - at) ≤ length (now out) ⌝ }
+    requires { ⌜ Values (now values) ⌝ }
     ensures { λ r. ⌜ fedTo answer (take (r .n) (now (line .exit))) (drop (r .at) (now (chunk .entry))) (now (out .exit)) (r .used)
         ≡ fedTo answer (take n (now (line .entry))) (drop at (now (chunk .entry))) (now (out .entry)) used ⌝ }
     ensures { λ r. ⌜ Onward (length (now (chunk .entry))) at (r .n) (r .at) ⌝ }
@@ -118,13 +139,13 @@ fn put_next(
         ≤ used + n + 5 * (length (now (chunk .entry)) - at) ⌝ }
 {
     if n > 0 {
-        return put_line(chunk, at, line, n, out, used);
+        return put_line(chunk, at, line, n, values, out, used);
     }
-    let quick = put_quick(chunk, at, frame, out, used);
+    let quick = put_quick(chunk, at, values, frame, out, used);
     if quick.at > at {
         return quick;
     }
-    put_line(chunk, at, line, n, out, quick.used)
+    put_line(chunk, at, line, n, values, out, quick.used)
 }
 
 // A chunk of the input: stores the answers to the lines that end in it, and keeps what has come of the next line;
@@ -138,12 +159,13 @@ fn feed_lines(chunk: &[u8], line: &mut [u8], n: usize, out: &mut [u8]) -> Fed
     ensures { λ r. ⌜ r .n ≤ keptMost ⌝ }
     ensures { λ r. ⌜ r .used ≤ length (now (out .entry)) ⌝ }
 {
+    let values = values();
     let mut frame = [0u8; FRAME_MOST];
     let mut held = n;
     let mut used = 0;
     let mut at = 0;
     while at < chunk.len() {
-        let next = put_next(chunk, at, line, held, &mut frame, out, used);
+        let next = put_next(chunk, at, line, held, &values, &mut frame, out, used);
         held = next.n;
         used = next.used;
         at = next.at;
@@ -190,5 +212,6 @@ pub fn finish(line: &[u8], n: usize, out: &mut [u8]) -> usize
     if n == 0 {
         return 0;
     }
-    put_answer(&line[..n], out, 0)
+    let values = values();
+    put_answer(&line[..n], &values, out, 0)
 }

@@ -1,20 +1,20 @@
 -- `hex::decode` meets its contract. The invariant: what is left to decode, stored from where the loop stands, gives what is wanted.
 -- Assumes nothing.
-use Prim.Native.Nat.{ℕ, _+_, _-_, _*_, _≤_}
+use Prim.Native.Nat.{ℕ, _+_, _-_, _*_, _≤_, _<_}
 use native.Mathlib.Omega.{arith}
 use mathlib.Core.List.{List, []}
 use mathlib.Core.Path.{_≡_, refl, sym, ap, _∙_}
 use borrow.Author.Needs.{needs}
-use lib.ListN.{length, length-set}
+use lib.ListN.{length, getD, length-set}
 use Rattle.octets.specs.Buffer.{laid}
 use Rattle.octets.proofs.Buffer.{laid-none, laid-cons}
-use Rattle.hex.specs.Hex.{decoded}
-use Rattle.hex.proofs.Hex.{unhex-high, unhex-low, rest, rest-all, rest-pair, rest-none, rest-end}
+use Rattle.hex.specs.Hex.{worth, decoded}
+use Rattle.hex.proofs.Hex.{worth-small, unhex-other, rest, rest-all, rest-pair, rest-none, rest-end}
 use Rattle.hex.proofs.decode.Statement.{statement}
 use Rattle.hex.proofs.decode.Tie as tie
 
 abbrev Inv-loop : tie.InvT-loop
-Inv-loop s at out₀ end n₀ out n =
+Inv-loop s at values out₀ end n₀ out n =
     (n ≤ end)
     × (end ≤ length out₀)
     × (2 * end ≤ length s - at)
@@ -23,7 +23,7 @@ Inv-loop s at out₀ end n₀ out n =
     × (n + length (rest s at (length out₀) n) ≡ length (decoded s at (length out₀)))
 
 abbrev μ-loop : tie.MeasureT-loop
-μ-loop s at out₀ end n₀ out n = end - n
+μ-loop s at values out₀ end n₀ out n = end - n
 
 loop-holds : tie.Need-loop-holds Inv-loop μ-loop
 loop-holds c =
@@ -31,15 +31,51 @@ loop-holds c =
     let e = rest-all (a .s .now) (a .at) (length (a .out .now)) in
     (omega arith, omega arith, omega arith, refl, ap (laid (a .out .now) 0) e, omega (arith, ap length e))
 
+-- the table has the values of the two bytes at hand
+high-byte : (c : tie.After-shared-slice-known2 Inv-loop μ-loop) →
+    let a = c .before .before .before .before .before .before .args in
+    getD (a .s .now) (a .at + 2 * c .before .before .loop .n) 0 < 256
+high-byte c =
+    let a = c .before .before .before .before .before .before .args in
+    omega (arith, c .shared-slice-known2 .given (a .at + 2 * c .before .before .loop .n))
+
+low-byte : (c : tie.After-shared-slice-known3 Inv-loop μ-loop) →
+    let a = c .before .before .before .before .before .before .before .before .args in
+    getD (a .s .now) (a .at + 2 * c .before .before .before .before .loop .n + 1) 0 < 256
+low-byte c =
+    let a = c .before .before .before .before .before .before .before .before .args in
+    omega (arith, c .shared-slice-known3 .given (a .at + 2 * c .before .before .before .before .loop .n + 1))
+
+-- the pair that they make
+pair : (c : tie.After-low Inv-loop μ-loop) →
+    let l = c .before .before .before .before .before .loop in
+    let a = c .before .before .before .before .before .before .before .before .before .args in
+    let i = a .at + 2 * l .n in
+    16 * getD (a .values .now) (getD (a .s .now) i 0) 0 + getD (a .values .now) (getD (a .s .now) (i + 1) 0) 0
+    ≡ 16 * worth (getD (a .s .now) i 0) + worth (getD (a .s .now) (i + 1) 0)
+pair c =
+    let low = c .before in
+    let high = low .before .before in
+    let start = c .before .before .before .before .before .before .before .before .before in
+    rw (start .pre _ (high-byte high), start .pre _ (low-byte low))
+
+small : (c : tie.After-low Inv-loop μ-loop) →
+    let l = c .before .before .before .before .before .loop in
+    let a = c .before .before .before .before .before .before .before .before .before .args in
+    let i = a .at + 2 * l .n in
+    (getD (a .values .now) (getD (a .s .now) i 0) 0 ≤ 256) × (getD (a .values .now) (getD (a .s .now) (i + 1) 0) 0 ≤ 256)
+small c =
+    let low = c .before in
+    let high = low .before .before in
+    let start = c .before .before .before .before .before .before .before .before .before in
+    (rw (start .pre _ (high-byte high)) (worth-small _), rw (start .pre _ (low-byte low)) (worth-small _))
+
 loop-again : tie.Need-loop-again Inv-loop μ-loop
 loop-again c =
-    let low = c .before .before in
-    let high = low .before .before in
-    let l = high .before .before .before .loop in
-    let a = high .before .before .before .before .before .before .before .args in
-    let e =
-    rest-pair (a .s .now) (a .at) (length (a .out .now)) (l .n) _ _ (omega arith) (omega arith) (high .value .ensures) (low .value2 .ensures)
-    (c .before .if1 .left) (c .if2 .left) in (
+    let two = c .before in
+    let l = two .before .before .before .before .before .loop in
+    let a = two .before .before .before .before .before .before .before .before .before .args in
+    let e = rest-pair (a .s .now) (a .at) (length (a .out .now)) (l .n) _ (omega arith) (omega arith) (pair two) (c .if1 .left) in (
       omega arith,
       l .inv .1,
       l .inv .2,
@@ -53,23 +89,15 @@ done : (out₀ out left all : List ℕ) (n : ℕ) → laid out n left ≡ laid o
     (n ≡ length all) × (out ≡ laid out₀ 0 all)
 done out₀ out left all n e f z = (omega (arith, ap length z), sym (laid-none out n) ∙ (rw z at e))
 
-high : tie.Need-returns Inv-loop μ-loop
-high c =
-    let high = c .before .before .before in
-    let l = high .before .before .before .loop in
-    let a = high .before .before .before .before .before .before .before .args in
+other : tie.Need-returns Inv-loop μ-loop
+other c =
+    let two = c .before in
+    let l = two .before .before .before .before .before .loop in
+    let a = two .before .before .before .before .before .before .before .before .before .args in
     done _ _ _ _ _ (l .inv .4) (l .inv .5)
-    (rest-none _ _ _ (l .n) (unhex-high (a .s .now) (a .at + 2 * l .n) _ (omega arith) (high .value .ensures) (c .if1 .taken)))
+    (rest-none _ _ _ (l .n) (unhex-other (a .s .now) (a .at + 2 * l .n) _ (omega arith) (pair two) (c .if1 .taken)))
 
-low : tie.Need-returns-2 Inv-loop μ-loop
-low c =
-    let low = c .before .before in
-    let l = low .before .before .before .before .before .loop in
-    let a = low .before .before .before .before .before .before .before .before .before .args in
-    done _ _ _ _ _ (l .inv .4) (l .inv .5)
-    (rest-none _ _ _ (l .n) (unhex-low (a .s .now) (a .at + 2 * l .n) _ (omega arith) (low .value2 .ensures) (c .if2 .taken)))
-
-all : tie.Need-returns-3 Inv-loop μ-loop
+all : tie.Need-returns-2 Inv-loop μ-loop
 all c =
     let l = c .before .loop in
     let m = c .before .before in
@@ -79,6 +107,8 @@ all c =
 pub decode-spec : {M : Type 1} → statement M
 decode-spec =
     tie.close
-    (tie.spec Inv-loop μ-loop (λ c κs. search needs) loop-holds (λ c. search needs) (λ c. search needs) (λ c. search needs) (λ c κs. search needs)
-    (λ c. search needs) (λ c. search needs) (λ c. search needs) (λ c. search needs) (λ c κs. search needs) (λ c. search needs) high (λ c. search needs) low
-    (λ c. search needs) (λ c. search needs) (λ c. search needs) (λ c. search needs) (λ c. search needs) loop-again (λ c. search needs) all)
+    (tie.spec Inv-loop μ-loop (λ c κs. search needs) loop-holds (λ c. search needs) (λ c. search needs) (λ c. search needs) (λ c. omega (arith, high-byte c))
+    (λ c. omega (arith, high-byte c)) high-byte (λ c. search needs) (λ c. search needs) (λ c. search needs) (λ c. search needs)
+    (λ c. omega (arith, low-byte c)) (λ c. omega (arith, low-byte c)) low-byte (λ c. omega (arith, small c .0))
+    (λ c. omega (arith, small c .0, small c .1)) (λ c. search needs) other (λ c. search needs) (λ c. search needs)
+    (λ c. search needs) (λ c. search needs) loop-again (λ c. search needs) all)

@@ -9,7 +9,7 @@ use mathlib.Core.Path.{_≡_, refl, sym, ap, _∙_}
 use borrow.Author.Tests.{ne-eqb}
 use lib.Dec.{eqb}
 use Rattle.octets.proofs.Each.{same}
-use Rattle.hex.specs.Hex.{digit}
+use Rattle.hex.specs.Hex.{digit, worth}
 use Rattle.hex.proofs.value.Statement.{statement}
 use Rattle.hex.proofs.value.Tie as tie
 
@@ -32,11 +32,11 @@ digits =
     102 ∷ 101 ∷ 100 ∷ 99 ∷ 98 ∷ 97 ∷ 70 ∷ 69 ∷ 68 ∷ 67 ∷ 66 ∷ 65 ∷
     57 ∷ 56 ∷ 55 ∷ 54 ∷ 53 ∷ 52 ∷ 51 ∷ 50 ∷ 49 ∷ 48 ∷ []
 
-other : (b : ℕ) → b < 256 → None digits b → 16 ≡ digit b
+other : (b : ℕ) → b < 256 → None digits b → 256 ≡ worth b
 unfolding digit listed
 other b h n =
-    sym (same (λ (b : ℕ). cond (listed digits b) 16 (digit b)) (λ (b : ℕ). 16) 256 tt b h)
-    ∙ ap (λ (t : Bool). cond t 16 (digit b)) (unlisted digits b n)
+    sym (same (λ (b : ℕ). cond (listed digits b) 256 (worth b)) (λ (b : ℕ). 256) 256 tt b h)
+    ∙ ap (λ (t : Bool). cond t 256 (worth b)) (unlisted digits b n)
 
 pub value-spec : {M : Type 1} → statement M
 unfolding digit

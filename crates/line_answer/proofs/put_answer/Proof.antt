@@ -37,7 +37,7 @@ few c =
     omega (arith, c .decode .ensures .0, decoded-room (a .line .now) (f .find .result + 1) 512)
 
 bytes : (c : tie.After-decode) →
-    take (c .decode .result) (c .decode .last .1 .1 .0) ≡
+    take (c .decode .result) (c .decode .last .1 .1 .1 .0) ≡
     decoded (c .before .before .before .before .before .before .before .args .line .now) (c .before .before .before .find .result + 1) 512
 bytes c = ap (take (c .decode .result)) (c .decode .ensures .1) ∙ front _ _ (c .decode .result) (sym (c .decode .ensures .0)) (few c)
 

@@ -15,7 +15,7 @@ use Rattle.lines.proofs.feed_lines.Statement.{statement}
 use Rattle.lines.proofs.feed_lines.Tie as tie
 
 abbrev Inv-loop : tie.InvT-loop
-Inv-loop chunk line₀ n out₀ frame₀ held₀ used₀ at₀ line out frame held used at =
+Inv-loop chunk line₀ n out₀ values frame₀ held₀ used₀ at₀ line out frame held used at =
     (at ≤ length chunk)
     × (held ≤ keptMost)
     × (length line ≡ length line₀)
@@ -25,17 +25,18 @@ Inv-loop chunk line₀ n out₀ frame₀ held₀ used₀ at₀ line out frame he
     × (fedTo answer (take held line) (drop at chunk) out used ≡ fedTo answer (take n line₀) chunk out₀ 0)
 
 abbrev μ-loop : tie.MeasureT-loop
-μ-loop chunk line₀ n out₀ frame₀ held₀ used₀ at₀ line out frame held used at = length chunk - at
+μ-loop chunk line₀ n out₀ values frame₀ held₀ used₀ at₀ line out frame held used at = length chunk - at
 
 loop-holds : tie.Need-loop-holds Inv-loop μ-loop
 loop-holds c = (omega arith, omega arith, refl, refl, length-replicate {A = ℕ} 512 0, omega arith, refl)
 
 room : tie.Need-put-next-requires Inv-loop μ-loop
 room c κs =
-    let t = c .before .before .before in
+    let t = c .before .before .before .before in
     let l = t .before .loop in
-    let p = t .before .before .before .before .before .pre in
-    (l .inv .1, (l .inv .2 ∙ p .1 .0, (t .loop-test .taken, (l .inv .4, omega (arith, l .inv .5, l .inv .3, p .1 .1)))))
+    let v = t .before .before in
+    let p = v .before .before .before .before .pre in
+    (l .inv .1, (l .inv .2 ∙ p .1 .0, (t .loop-test .taken, (l .inv .4, (omega (arith, l .inv .5, l .inv .3, p .1 .1), v .values .ensures)))))
 
 loop-less : tie.Need-loop-less Inv-loop μ-loop
 loop-less c =
@@ -45,14 +46,14 @@ loop-less c =
 loop-again : tie.Need-loop-again Inv-loop μ-loop
 loop-again c =
     let p = c .before .before .before .before .before in
-    let l = p .before .before .before .before .before .loop in
+    let l = p .before .before .before .before .before .before .loop in
     let e = p .put-next .ensures in
     let k = p .put-next .kept in (
       e .1 .0 .within,
       e .1 .0 .small,
       k .1 .1 .0 ∙ l .inv .2,
-      k .1 .1 .1 .1 .1 .0 ∙ l .inv .3,
-      k .1 .1 .1 .1 .0 ∙ l .inv .4,
+      k .1 .1 .1 .1 .1 .1 .0 ∙ l .inv .3,
+      k .1 .1 .1 .1 .1 .0 ∙ l .inv .4,
       omega (arith, e .1 .1, l .inv .5),
       e .0 ∙ l .inv .6,
     )
@@ -60,7 +61,7 @@ loop-again c =
 returns : tie.Need-returns Inv-loop μ-loop
 returns c =
     let l = c .before .loop in
-    let s = c .before .before .before .before .before in
+    let s = c .before .before .before .before .before .before in
     let a = s .args in
     let e = drop-of-length-le (a .chunk .now) (c .loop-test .left) in
     let h : length (take (l .held) (l .line)) ≤ keptMost = omega (arith, length-take-le (l .held) (l .line) (omega (arith, l .inv .1, l .inv .2, s .pre .1 .0)), l .inv .1) in (
@@ -71,4 +72,4 @@ returns c =
 pub feed-lines-spec : {M : Type 1} → statement M
 feed-lines-spec =
     tie.close
-    (tie.spec Inv-loop μ-loop loop-holds (λ c. search needs) room loop-less loop-again (λ c. c .before .loop .inv .2) (λ c. c .before .loop .inv .3) returns)
+    (tie.spec Inv-loop μ-loop (λ c κs. search needs) loop-holds (λ c. search needs) room loop-less loop-again (λ c. c .before .loop .inv .2) (λ c. c .before .loop .inv .3) returns)

@@ -21,11 +21,15 @@ nothing c = (same (last-none answer _ _ (c .if1 .taken)) (none _ _), omega arith
 some : tie.Need-returns-2
 some c =
     let p = c .before .before in
-    let e = p .before .before .before in
+    let e = p .before .before .before .before .before in
     (same (last-some answer _ (omega (arith, long e, e .if1 .left))) (p .put-answer .ensures .0), omega (arith, p .put-answer .ensures .1, long e))
+
+room : tie.Need-put-answer-requires
+room c κs =
+    let v = c .before .before .before in
+    let e = v .before in
+    (omega (arith, long e, e .before .before .before .pre .1), v .values .ensures)
 
 pub finish-spec : {M : Type 1} → statement M
 finish-spec =
-    tie.close
-    (tie.spec nothing (λ c. sym (long (c .before))) (λ c κs. omega (arith, long (c .before .before), c .before .before .before .before .before .pre .1))
-    (λ c. search needs) some)
+    tie.close (tie.spec nothing (λ c κs. search needs) (λ c. sym (long (c .before .before))) room (λ c. search needs) some)

@@ -32,7 +32,7 @@ room c κs =
     let a = s .args in
     let u = cut-used (a .chunk .now) (a .at) (a .line .now) (a .n) (k .cut .result) _ (k .cut .ensures .0) (k .cut .ensures .1) (s .pre .0)
     (s .pre .1 .0) (s .pre .1 .1 .0) (t .if1 .taken) in
-    omega (arith, whole k, u .0, u .1, s .pre .1 .1 .0, s .pre .1 .1 .1)
+    (omega (arith, whole k, u .0, u .1, s .pre .1 .1 .0, s .pre .1 .1 .1 .0), s .pre .1 .1 .1 .1)
 
 ended : tie.Need-returns
 ended c =

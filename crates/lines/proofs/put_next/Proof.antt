@@ -39,8 +39,33 @@ slow c =
       (o .1 .0, omega (arith, o .1 .1, e .1 .1 .1 .1, still)),
     )
 
+-- what either way asks: what this way was asked
+begun : tie.Need-put-line-requires
+begun c κs =
+    let p = c .before .before .before .before .before .before .before .pre in
+    (p .0, (p .1 .0, (p .1 .1 .0, (p .1 .1 .1 .1 .0, p .1 .1 .1 .1 .1))))
+
+tried : tie.Need-put-quick-requires
+tried c κs =
+    let p = c .before .before .before .before .before .before .before .pre in
+    (omega (arith, p .1 .1 .0), (p .1 .1 .1 .0, (omega (arith, p .1 .1 .1 .1 .0), p .1 .1 .1 .1 .1)))
+
+again : tie.Need-put-line-requires-2
+again c κs =
+    let f = c .before .before in
+    let q = f .before .before .before .before .before .before in
+    let s = q .before .before .before .before .before .before .before .before in
+    let p = s .pre in
+    let e = q .put-quick .ensures in (
+      p .0,
+      (
+        p .1 .0,
+        (p .1 .1 .0, (omega (arith, e .1 .1 .0, e .1 .1 .1 .1, f .if2 .left, p .1 .1 .1 .1 .0, q .put-quick .kept), p .1 .1 .1 .1 .1)),
+      ),
+    )
+
 pub put-next-spec : {M : Type 1} → statement M
 put-next-spec =
     tie.close
-    (tie.spec (λ c κs. search needs) (λ c. search needs) (λ c. search needs) (λ c. search needs) (λ c κs. search needs) (λ c. search needs)
-    (λ c. search needs) quick (λ c κs. search needs) (λ c. search needs) (λ c. search needs) (λ c. search needs) slow)
+    (tie.spec begun (λ c. search needs) (λ c. search needs) (λ c. search needs) tried (λ c. search needs)
+    (λ c. search needs) quick again (λ c. search needs) (λ c. search needs) (λ c. search needs) slow)

@@ -42,7 +42,7 @@ few c =
 
 bytes : (c : tie.After-decode) →
     let f = c .before .before .before .before in
-    take (c .decode .result) (c .decode .last .1 .1 .0) ≡ decoded (f .before .before .before .before .args .chunk .now) (f .find .result + 1) 512
+    take (c .decode .result) (c .decode .last .1 .1 .1 .0) ≡ decoded (f .before .before .before .before .args .chunk .now) (f .find .result + 1) 512
 bytes c =
     let f = c .before .before .before .before in
     let s = f .before .before .before .before in
@@ -81,7 +81,7 @@ room c κs =
     let e = c .before .before .before .before in
     let f = e .before .before .before .before .before .before .before .before in
     let s = f .before .before .before .before in
-    omega (arith, label e, feed-within e, s .pre, f .find .ensures)
+    omega (arith, label e, feed-within e, s .pre .0, s .pre .1 .1 .0, f .find .ensures)
 
 good : tie.Need-returns-4
 good c =
