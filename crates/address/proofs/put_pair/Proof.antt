@@ -4,15 +4,16 @@ use mathlib.Core.Path.{_∙_}
 use native.Mathlib.Omega.{arith}
 use borrow.Author.Needs.{needs}
 use Rattle.octets.proofs.Buffer.{laid-join}
-use Rattle.address.proofs.Laws.{pan-length}
+use Rattle.address.proofs.Addresses.{pan-length}
 use Rattle.address.proofs.put_pair.Statement.{statement}
 use Rattle.address.proofs.put_pair.Tie as tie
 
 returns : tie.Need-returns
 returns c =
     let second = c .before .before .put in
-    let first = c .before .before .before .before .before .before .put-pan in
-    let a = c .before .before .before .before .before .before .before .before .before .args in (
+    let call = c .before .before .before .before .before .before in
+    let first = call .put-pan in
+    let a = call .before .before .before .args in (
       omega (arith, first .ensures .0, second .ensures .0),
       second .ensures .1 ∙ rw (first .ensures .1) (laid-join _ _ _ _ _ _ (pan-length (a .own) (a .«pan-id»)) (first .ensures .0)),
     )
