@@ -153,12 +153,12 @@ static void header_record(void)
 {
     static const byte types[8] = { 0, 1, 2, 3, 0, 5, 6, 7 };
     struct ask ask = { 0 };
-    byte record[47];
+    byte record[48];
     byte mode = draw();
     ask.room = (byte)extent(mode, draw(), 37);
     ask.choice = draw() % 3;
     fill(ask.counter, 4);
-    fill(record, 47);
+    fill(record, 48);
     record[0] = types[record[0] % 8];
     for (int i = 1; i < 6; i++)
         record[i] %= 2;
@@ -170,7 +170,8 @@ static void header_record(void)
         memset(record + 31, 0, 16);
     else
         fit_security(record + 31);
-    print_command('H', &ask, record, 47);
+    record[47] = 0;
+    print_command('H', &ask, record, 48);
 }
 
 static void fit_order(byte *order)
@@ -190,7 +191,7 @@ static void fit_superframe(byte *superframe)
 
 static void fit_slots(byte *slots)
 {
-    static const byte unused[5] = { 0xff, 0xff, 0, 0, 0 };
+    static const byte unused[5] = { 0xff, 0xff, 0, 0, 'r' };
     slots[0] %= 2;
     slots[1] %= 8;
     for (int i = 0; i < 7; i++) {
@@ -198,7 +199,7 @@ static void fit_slots(byte *slots)
         if (i < slots[1]) {
             slot[2] %= 16;
             slot[3] %= 16;
-            slot[4] %= 2;
+            slot[4] = slot[4] % 2 == 0 ? 'r' : 't';
         } else {
             memcpy(slot, unused, 5);
         }

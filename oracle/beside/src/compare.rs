@@ -62,7 +62,7 @@ fn fields(line: &[u8]) -> Vec<&[u8]> {
 fn writes(command: &[u8], answer: &[&[u8]]) -> bool {
     match command[0] {
         b'A'..=b'Z' => 3 <= answer.len(),
-        b't' | b'v' | b'm' | b'o' | b'k' | b'p' | b'd' => false,
+        b't' | b'v' | b'm' | b'o' | b'k' | b'z' | b'p' | b'd' => false,
         _ => 5 <= answer.len(),
     }
 }

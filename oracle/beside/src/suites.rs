@@ -1,6 +1,6 @@
 //! The suites: commands that leave no case of a small field out, and random ones by their digests.
 
-use oracle_format::layout::{self, DESCRIPTOR, EMPTY_DESCRIPTOR};
+use oracle_format::layout::{self, DESCRIPTOR, EMPTY_DESCRIPTOR, RECEIVE, TRANSMIT};
 use oracle_format::text::hex;
 
 /// Takes a command: its kind and its bytes.
@@ -27,6 +27,7 @@ pub const SUITES: &[Suite] = &[
     Suite { name: "places", what: "every kind at every place, past the end too", make: places },
     Suite { name: "long", what: "inputs of 100 to 500 bytes, every kind", make: long },
     Suite { name: "headers", what: "header records that no reader makes, every room", make: header_records },
+    Suite { name: "sizes", what: "get_octet_size of header records of every shape", make: sizes },
     Suite { name: "parts", what: "records of the parts, every room", make: part_records },
     Suite { name: "eight", what: "records that are refused with 8", make: eight },
     Suite { name: "unused", what: "records with anything past their counts", make: unused },
@@ -359,16 +360,24 @@ fn header_record(start: [u8; 8], destination: &[u8], source: &[u8], security: &O
             spelled.extend_from_slice(security);
         }
     }
+    // The kept length.
+    spelled.push(0);
     spelled
 }
 
-fn header_records(take: &mut Take) {
+/// No security part, and one of each key identifier with each key mode.
+fn securities() -> Vec<Option<Vec<u8>>> {
     let mut securities = vec![None];
     for key in 0..4 {
         for mode in 0..4 {
             securities.push(Some(security_record(5, mode, key)));
         }
     }
+    securities
+}
+
+fn header_records(take: &mut Take) {
+    let securities = securities();
     for to in [0, 2, 3] {
         for from in [0, 2, 3] {
             for compress in 0..2 {
@@ -402,6 +411,26 @@ fn header_records(take: &mut Take) {
     }
 }
 
+/// Records of every type, version, flags, address forms and security part, those that no reader makes too.
+fn sizes(take: &mut Take) {
+    let securities = securities();
+    for kind in [0, 1, 2, 3, 5, 6, 7] {
+        for version in 0..3 {
+            for flags in 0..32u8 {
+                let flag = |at: u8| flags / (1 << at) % 2;
+                let start = [kind, flag(0), flag(1), flag(2), flag(3), flag(4), version, 0xfe];
+                for to in [0, 2, 3] {
+                    for from in [0, 2, 3] {
+                        for security in &securities {
+                            take(b'z', &header_record(start, &address(to, 0x1234), &address(from, 0xabcd), security));
+                        }
+                    }
+                }
+            }
+        }
+    }
+}
+
 fn superframe(beacon: [u8; 2], superframe: [u8; 2], slot: u8, flags: u8) -> Vec<u8> {
     vec![beacon[0], beacon[1], superframe[0], superframe[1], slot, flags % 2, flags / 2 % 2, flags / 4 % 2]
 }
@@ -415,12 +444,21 @@ fn order(half: u8) -> [u8; 2] {
     }
 }
 
+/// Transmit where the pattern's bit of this index is set.
+fn direction(pattern: u8, index: usize) -> u8 {
+    if pattern >> index & 1 == 1 {
+        TRANSMIT
+    } else {
+        RECEIVE
+    }
+}
+
 fn slots_record(permit: u8, count: usize, directions: u8) -> Vec<u8> {
     let mut spelled = vec![permit, count as u8];
     for index in 0..7 {
         if index < count {
             let slot = index as u8;
-            spelled.extend_from_slice(&[slot, 0x80 + slot, slot + 3, 15 - slot, directions >> index & 1]);
+            spelled.extend_from_slice(&[slot, 0x80 + slot, slot + 3, 15 - slot, direction(directions, index)]);
         } else {
             spelled.extend_from_slice(&EMPTY_DESCRIPTOR);
         }
@@ -468,7 +506,7 @@ fn part_records(take: &mut Take) {
         }
     }
     for halves in 0..=255 {
-        for direction in 0..2 {
+        for direction in [RECEIVE, TRANSMIT] {
             for space in 0..=4 {
                 command(take, b'E', 0, room(space), &[0xcd, 0xab, halves % 16, halves / 16, direction]);
             }
@@ -540,7 +578,7 @@ fn eight(take: &mut Take) {
                 command(take, b'F', 0, room(space), &first);
                 command(take, b'B', 0, room(space), &beacon_record(&first, &few, &none));
             }
-            for entry in [[1, 2, value, 0, 1], [1, 2, 0, value, 1]] {
+            for entry in [[1, 2, value, 0, TRANSMIT], [1, 2, 0, value, TRANSMIT]] {
                 command(take, b'E', 0, room(space), &entry);
                 let mut slots = slots_record(0, 3, 5);
                 slots[2 + 2 * DESCRIPTOR..2 + 3 * DESCRIPTOR].copy_from_slice(&entry);
@@ -565,7 +603,7 @@ fn eight(take: &mut Take) {
 
 fn unused(take: &mut Take) {
     for count in 0..=7 {
-        for entry in [[0, 0, 0, 0, 0], [1, 2, 3, 4, 1], [0xff, 0xff, 255, 255, 1], [9, 9, 16, 0, 0]] {
+        for entry in [[0, 0, 0, 0, RECEIVE], [1, 2, 3, 4, TRANSMIT], [0xff, 0xff, 255, 255, TRANSMIT], [9, 9, 16, 0, RECEIVE]] {
             let mut slots = slots_record(1, count, 0x7f);
             for place in count..7 {
                 slots[2 + place * DESCRIPTOR..][..DESCRIPTOR].copy_from_slice(&entry);

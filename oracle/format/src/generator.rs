@@ -1,6 +1,6 @@
 //! The frames and records that a digest command makes: exactly as FORMAT.md tells, so that any program can make the same.
 
-use crate::layout::{self, DESCRIPTOR, EMPTY_DESCRIPTOR, PENDING, SLOTS, SUPERFRAME};
+use crate::layout::{self, DESCRIPTOR, EMPTY_DESCRIPTOR, PENDING, RECEIVE, SLOTS, SUPERFRAME, TRANSMIT};
 
 /// The generator: one step of xorshift64 for each byte.
 pub struct Draw(u64);
@@ -31,6 +31,7 @@ pub struct Run {
 const PARTS: [u8; 9] = *b"scnaxfegq";
 const TYPES: [u8; 8] = [0, 1, 2, 3, 0, 5, 6, 7];
 const MODES: [u8; 3] = [0, 2, 3];
+const DIRECTIONS: [u8; 2] = [RECEIVE, TRANSMIT];
 
 impl Run {
     /// Family, state (eight bytes, not all 0), count (two bytes).
@@ -189,10 +190,11 @@ fn header_record(draw: &mut Draw, made: &mut Vec<u8>) -> u8 {
     fit_address(&mut record[19..30]);
     record[30] %= 2;
     if record[30] == 0 {
-        record[31..].fill(0);
+        record[31..47].fill(0);
     } else {
-        fit_security(&mut record[31..]);
+        fit_security(&mut record[31..47]);
     }
+    record[47] = 0;
     prefix(0, room, 0, choice, counter, made);
     made.extend_from_slice(&record);
     b'H'
@@ -220,7 +222,7 @@ fn fit_slots(bytes: &mut [u8]) {
         if index < count {
             entry[2] %= 16;
             entry[3] %= 16;
-            entry[4] %= 2;
+            entry[4] = DIRECTIONS[(entry[4] % 2) as usize];
         } else {
             entry.copy_from_slice(&EMPTY_DESCRIPTOR);
         }

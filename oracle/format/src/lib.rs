@@ -37,7 +37,7 @@ pub trait Part {
     /// Writes at a place of the buffer; none where the side can't be asked.
     fn write(record: Self::Record, counter: Option<u32>, buffer: &mut [u8], place: usize) -> Option<Result<usize, Number>>;
 
-    /// `get_octet_size`, for the kinds that have it.
+    /// The size that stands in the dump, for the kind that has one there.
     fn size(_record: &Self::Record) -> Option<usize> {
         None
     }
@@ -61,6 +61,9 @@ pub trait Side {
     type Slots: Part;
     type Pending: Part;
     type Beacon: Part;
+
+    /// `get_octet_size` of a header.
+    fn header_size(header: &<Self::Header as Part>::Record) -> usize;
 
     fn frame_type(bits: u8) -> Result<u8, Number>;
     fn frame_version(bits: u8) -> Result<u8, Number>;
@@ -201,6 +204,18 @@ fn put_build<P: Part>(kind: u8, bytes: &[u8], form: Form, out: &mut Vec<u8>) -> 
     true
 }
 
+/// The size of the header that is dumped.
+fn put_header_size<S: Side>(spelled: &[u8], out: &mut Vec<u8>) -> bool {
+    if !layout::well_formed(b'H', spelled) {
+        return false;
+    }
+    match S::Header::build(spelled) {
+        Some(header) => decimal(S::header_size(&header), out),
+        None => out.push(b'?'),
+    }
+    true
+}
+
 fn put_bits(answer: Result<u8, Number>, form: Form, out: &mut Vec<u8>) {
     match answer {
         Ok(bits) => {
@@ -250,6 +265,7 @@ fn dispatch<S: Side>(kind: u8, bytes: &[u8], form: Form, out: &mut Vec<u8>) -> b
         (b'G', _) => put_build::<S::Slots>(kind, bytes, form, out),
         (b'Q', _) => put_build::<S::Pending>(kind, bytes, form, out),
         (b'B', _) => put_build::<S::Beacon>(kind, bytes, form, out),
+        (b'z', _) => put_header_size::<S>(bytes, out),
         (b't', [bits]) => {
             put_bits(S::frame_type(*bits), form, out);
             true
@@ -357,7 +373,7 @@ pub fn program<S: Side>() {
 pub mod layout {
     //! The fixed layouts in which records are spelled.
 
-    pub const HEADER: usize = 47;
+    pub const HEADER: usize = 48;
     pub const SECURITY: usize = 16;
     pub const CONTROL: usize = 2;
     pub const SUPERFRAME: usize = 8;
@@ -371,13 +387,23 @@ pub mod layout {
         pub const DESTINATION: usize = 8;
         pub const SOURCE: usize = 19;
         pub const SECURED: usize = 30;
+        pub const SECURITY: usize = 31;
+        pub const KEPT: usize = 47;
     }
 
+    /// The directions by their names.
+    pub const RECEIVE: u8 = b'r';
+    pub const TRANSMIT: u8 = b't';
+
     /// An entry of no use: broadcast address, start 0, length 0, Receive.
-    pub const EMPTY_DESCRIPTOR: [u8; DESCRIPTOR] = [0xff, 0xff, 0, 0, 0];
+    pub const EMPTY_DESCRIPTOR: [u8; DESCRIPTOR] = [0xff, 0xff, 0, 0, RECEIVE];
 
     fn flag(byte: u8) -> bool {
         byte <= 1
+    }
+
+    fn direction(byte: u8) -> bool {
+        byte == RECEIVE || byte == TRANSMIT
     }
 
     fn zeros(bytes: &[u8]) -> bool {
@@ -414,13 +440,13 @@ pub mod layout {
     }
 
     fn slots(bytes: &[u8]) -> bool {
-        flag(bytes[0]) && bytes[2..].chunks(DESCRIPTOR).all(|entry| flag(entry[4]))
+        flag(bytes[0]) && bytes[2..].chunks(DESCRIPTOR).all(|entry| direction(entry[4]))
     }
 
     fn header_record(bytes: &[u8]) -> bool {
         let secured = match bytes[header::SECURED] {
-            0 => zeros(&bytes[31..]),
-            1 => security(&bytes[31..]),
+            0 => zeros(&bytes[header::SECURITY..header::KEPT]),
+            1 => security(&bytes[header::SECURITY..header::KEPT]),
             _ => false,
         };
         bytes[0] <= 7
@@ -440,7 +466,7 @@ pub mod layout {
             (b'C', CONTROL) => bytes[1] <= 3,
             (b'N' | b'A', 2) | (b'X', 8) => true,
             (b'F', SUPERFRAME) => superframe(bytes),
-            (b'E', DESCRIPTOR) => flag(bytes[4]),
+            (b'E', DESCRIPTOR) => direction(bytes[4]),
             (b'G', SLOTS) => slots(bytes),
             (b'Q', PENDING) => true,
             (b'B', BEACON) => superframe(bytes) && slots(&bytes[SUPERFRAME..SUPERFRAME + SLOTS]),

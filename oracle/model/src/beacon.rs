@@ -1,7 +1,7 @@
 //! Document 01, "Beacon layout".
 
 use crate::bytes::{from, number, put, store, take};
-use oracle_format::layout::{DESCRIPTOR, SLOTS, SUPERFRAME};
+use oracle_format::layout::{DESCRIPTOR, RECEIVE, SLOTS, SUPERFRAME, TRANSMIT};
 use oracle_format::{Number, Part};
 
 /// Case (0 numbered, 1 OnDemand or Inactive) and value.
@@ -151,11 +151,17 @@ impl Part for Descriptor {
 
     fn spell(record: &Descriptor, out: &mut Vec<u8>) {
         put(record.address, 2, out);
-        out.extend_from_slice(&[record.start, record.length, record.transmit as u8]);
+        let direction = if record.transmit { TRANSMIT } else { RECEIVE };
+        out.extend_from_slice(&[record.start, record.length, direction]);
     }
 
     fn build(spelled: &[u8]) -> Option<Descriptor> {
-        Some(Descriptor { address: number(&spelled[..2]), start: spelled[2], length: spelled[3], transmit: spelled[4] == 1 })
+        Some(Descriptor {
+            address: number(&spelled[..2]),
+            start: spelled[2],
+            length: spelled[3],
+            transmit: spelled[4] == TRANSMIT,
+        })
     }
 
     fn write(record: Descriptor, _: Option<u32>, buffer: &mut [u8], place: usize) -> Option<Result<usize, Number>> {

@@ -2,7 +2,7 @@
 
 use crate::bytes::{from, number, put, store, take};
 use crate::security::Security;
-use oracle_format::layout::header::{DESTINATION, SECURED, SOURCE};
+use oracle_format::layout::header::{DESTINATION, SECURED, SECURITY, SOURCE};
 use oracle_format::{Number, Part};
 
 pub const TYPES: [u8; 7] = [0, 1, 2, 3, 5, 6, 7];
@@ -89,6 +89,12 @@ fn mode_of(address: &Option<Address>) -> u64 {
 }
 
 impl Header {
+    /// The crate's number: 3, plus 4 or 10 for each address, blind to compression and security.
+    pub fn size(&self) -> usize {
+        let octets = |address: &Option<Address>| address.map_or(0, |address| 2 + width(address.mode));
+        3 + octets(&self.destination) + octets(&self.source)
+    }
+
     /// Frame control with bits 7, 8 and 9 clear, and the sequence byte.
     fn put_start(&self, out: &mut Vec<u8>) {
         let bits = self.frame_type as u64
@@ -164,6 +170,8 @@ impl Part for Header {
             Some(security) => Security::spell(security, out),
             None => out.extend_from_slice(&[0; 16]),
         }
+        // No length is kept.
+        out.push(0);
     }
 
     fn build(spelled: &[u8]) -> Option<Header> {
@@ -180,7 +188,7 @@ impl Part for Header {
             source: build_address(&spelled[SOURCE..]),
             security: match spelled[SECURED] {
                 0 => None,
-                _ => Security::build(&spelled[SECURED + 1..]),
+                _ => Security::build(&spelled[SECURITY..]),
             },
         })
     }
@@ -209,12 +217,6 @@ impl Part for Header {
             security.bytes(counter, &mut part);
         }
         Some(store(buffer, place, &part))
-    }
-
-    /// The crate's number: 3, plus 4 or 10 for each address, blind to compression and security.
-    fn size(record: &Header) -> Option<usize> {
-        let octets = |address: &Option<Address>| address.map_or(0, |address| 2 + width(address.mode));
-        Some(3 + octets(&record.destination) + octets(&record.source))
     }
 
     fn counter(record: &Header) -> Option<u32> {

@@ -27,6 +27,10 @@ impl Side for Model {
     type Pending = beacon::Pending;
     type Beacon = beacon::Beacon;
 
+    fn header_size(header: &header::Header) -> usize {
+        header.size()
+    }
+
     fn frame_type(bits: u8) -> Result<u8, Number> {
         header::listed(&header::TYPES, bits, 3)
     }

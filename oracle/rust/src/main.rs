@@ -14,7 +14,7 @@ use ieee802154::mac::security::{AuxiliarySecurityHeader, KeyIdentifier, KeySourc
 use ieee802154::mac::{
     Address, AddressMode, ExtendedAddress, FooterMode, Frame, FrameContent, FrameType, FrameVersion, Header, PanId, ShortAddress,
 };
-use oracle_format::layout::{header, DESCRIPTOR, EMPTY_DESCRIPTOR, SLOTS, SUPERFRAME};
+use oracle_format::layout::{header, DESCRIPTOR, EMPTY_DESCRIPTOR, RECEIVE, SLOTS, SUPERFRAME, TRANSMIT};
 use oracle_format::{Number, Part, Side, UNKNOWN};
 
 struct Rust;
@@ -124,12 +124,14 @@ impl Part for HeaderPart {
             Some(security) => SecurityPart::spell(security, out),
             None => out.extend_from_slice(&[0; 16]),
         }
+        // The crate keeps no length.
+        out.push(0);
     }
 
     fn build(spelled: &[u8]) -> Option<Header> {
         let secured = match spelled[header::SECURED] {
             0 => None,
-            _ => Some(SecurityPart::build(&spelled[header::SECURED + 1..])?),
+            _ => Some(SecurityPart::build(&spelled[header::SECURITY..])?),
         };
         Some(Header {
             frame_type: FrameType::from_bits(spelled[0])?,
@@ -149,10 +151,6 @@ impl Part for HeaderPart {
     fn write(record: Header, counter: Option<u32>, buffer: &mut [u8], place: usize) -> Option<Result<usize, Number>> {
         let mut own = counter.map(context);
         write_at(record, &own.as_mut(), buffer, place)
-    }
-
-    fn size(record: &Header) -> Option<usize> {
-        Some(record.get_octet_size())
     }
 
     fn counter(record: &Header) -> Option<u32> {
@@ -342,7 +340,7 @@ fn spell_descriptor(scan: &mut Scan, out: &mut Vec<u8>) {
     out.extend_from_slice(&(scan.number("short_address: ShortAddress(") as u16).to_le_bytes());
     out.push(scan.number("starting_slot: ") as u8);
     out.push(scan.number("length: ") as u8);
-    out.push(scan.word_of("direction: ", &["Receive", "Transmit"]));
+    out.push([RECEIVE, TRANSMIT][scan.word_of("direction: ", &["Receive", "Transmit"]) as usize]);
 }
 
 struct DescriptorPart;
@@ -412,7 +410,7 @@ impl Part for SlotsPart {
         }
         let mut bytes = vec![spelled[0] << 7 | spelled[1], 0];
         for (index, entry) in used.chunks(DESCRIPTOR).enumerate() {
-            bytes[1] |= entry[4] << index;
+            bytes[1] |= ((entry[4] == TRANSMIT) as u8) << index;
             bytes.extend_from_slice(&[entry[0], entry[1], entry[3] << 4 | entry[2]]);
         }
         bytes.push(0);
@@ -526,6 +524,10 @@ impl Side for Rust {
     type Slots = SlotsPart;
     type Pending = PendingPart;
     type Beacon = BeaconPart;
+
+    fn header_size(header: &Header) -> usize {
+        header.get_octet_size()
+    }
 
     fn frame_type(bits: u8) -> Result<u8, Number> {
         FrameType::from_bits(bits).map(|value| value as u8).ok_or(3)

@@ -1,3 +1,0 @@
-pub mod Beacon
-pub mod Reads
-pub mod Writes
