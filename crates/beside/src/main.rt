@@ -6,7 +6,6 @@ mod ask;
 mod beacons;
 mod commands;
 mod headers;
-mod line_io;
 mod pending_addresses;
 mod places;
 mod security_parts;
@@ -16,6 +15,7 @@ mod text;
 mod values;
 
 use commands::put_answer;
+use line_cutter::KEPT_MOST;
 use line_cutter::cut;
 use line_io::ENDED;
 use line_io::FAILED;
@@ -23,9 +23,6 @@ use line_io::MORE;
 use line_io::read_some;
 use line_io::write_all;
 use places::first;
-
-// What is kept of a line: a byte more than the longest has.
-const KEPT_MOST: usize = 1025;
 
 // Bytes that are read at once, and that are written at once.
 const CHUNK: usize = 65536;
