@@ -45,10 +45,7 @@ impl BeaconRead {
     {
         let beacon = Beacon::new();
         BeaconRead {
-            outcome: Outcome {
-                number: 1,
-                length: 0,
-            },
+            outcome: Outcome::refused(1),
             beacon,
         }
     }
@@ -87,7 +84,7 @@ impl Beacon {
         let length = 2 + slots.outcome.length + pending.outcome.length;
         let beacon = joined(superframe, slots, pending);
         BeaconRead {
-            outcome: Outcome { number: 0, length },
+            outcome: Outcome::accepted(length),
             beacon,
         }
     }

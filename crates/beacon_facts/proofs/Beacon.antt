@@ -133,9 +133,6 @@ module _ (s : List ℕ) (at : ℕ) where
     beacon-typed b = (time-slots-typed s (at + 2) slots-there b, pending-typed s (pendingPlace s at) (found .pending) b)
 
     module _ (t : List ℕ) where
-      place-more : pendingPlace (s ++ t) at ≡ pendingPlace s at
-      place-more = rw (count-more s (at + 2) slots-there t)
-
       length-more : beaconLengthIn (s ++ t) at ≡ beaconLengthIn s at
       unfolding beaconLengthIn
       length-more = rw (count-more s (at + 2) slots-there t, counts-more s (pendingPlace s at) (found .pending) t)

@@ -13,12 +13,12 @@ use Rattle.octets.specs.Bits.{bits}
 use Rattle.octets.specs.Little.{number, split, Bytes}
 use Rattle.octets.proofs.Each.{same}
 use Rattle.octets.proofs.Little.{split-length, split-bytes, bytes-append, number-again, number-small, number-more}
-use Rattle.time_slot.specs.declared.Direction.{Direction}
-use Rattle.time_slot.specs.declared.Direction.the-variants.{Receive}
-use Rattle.time_slot.specs.declared.GuaranteedTimeSlotDescriptor.{GuaranteedTimeSlotDescriptor}
-use Rattle.time_slot.specs.declared.DescriptorRead.{DescriptorRead}
-use Rattle.time_slot.specs.Descriptor.{descriptorOf, descriptorIn, readDescriptor, slotByte, descriptorBytes, descriptorTooLarge, writeDescriptor}
-use Rattle.time_slot.proofs.Descriptor.{descriptor-length, fitting, descriptor-read}
+use Rattle.time_slots.specs.declared.Direction.{Direction}
+use Rattle.time_slots.specs.declared.Direction.the-variants.{Receive}
+use Rattle.time_slots.specs.declared.GuaranteedTimeSlotDescriptor.{GuaranteedTimeSlotDescriptor}
+use Rattle.time_slots.specs.declared.DescriptorRead.{DescriptorRead}
+use Rattle.time_slots.specs.Descriptor.{descriptorOf, descriptorIn, readDescriptor, slotByte, descriptorBytes, descriptorTooLarge, writeDescriptor}
+use Rattle.time_slots.proofs.Descriptor.{descriptor-length, fitting, descriptor-read}
 use Rattle.beacon_facts.specs.Cleared.{descriptorCleared}
 use Rattle.beacon_facts.specs.Formats.{descriptor, DescriptorTyped}
 use Rattle.beacon_facts.proofs.Format.{Written, Laws}

@@ -10,8 +10,8 @@ use Rattle.octets.specs.declared.ValueWritten.the-variants as Variant
 use Rattle.octets.specs.Value.{valueOutcome}
 use Rattle.superframe.specs.declared.SuperframeRead.{SuperframeRead}
 use Rattle.superframe.specs.Superframe.{readSuperframe}
-use Rattle.time_slot.specs.declared.DescriptorRead.{DescriptorRead}
-use Rattle.time_slot.specs.Descriptor.{readDescriptor}
+use Rattle.time_slots.specs.declared.DescriptorRead.{DescriptorRead}
+use Rattle.time_slots.specs.Descriptor.{readDescriptor}
 use Rattle.time_slots.specs.declared.TimeSlotsRead.{TimeSlotsRead}
 use Rattle.time_slots.specs.TimeSlots.{slotsDemand, slotCountIn, timeSlotsRefused, readTimeSlots}
 use Rattle.pending.specs.declared.PendingRead.{PendingRead}

@@ -19,7 +19,7 @@ use Rattle.identifiers.specs.declared.ExtendedAddress.{ExtendedAddress}
 use Rattle.identifiers.specs.ShortAddress.{short}
 use Rattle.identifiers.specs.ExtendedAddress.{extended}
 use Rattle.seven_places.specs.Seven.{reset}
-use Rattle.seven_places.proofs.Seven.{seven-length, seven-same, each-length}
+use Rattle.seven_places.proofs.Seven.{seven-length, seven-same, seven-reset, seven-all, reset-in-use, each-length}
 use Rattle.pending.specs.declared.PendingAddress.{PendingAddress}
 use Rattle.pending.specs.declared.PendingRead.{PendingRead}
 use Rattle.pending.specs.Addresses.{shortAt, extendedAt, emptyShort, emptyExtended, shortsIn, extendedsIn, shortBytes, extendedBytes}
@@ -29,7 +29,7 @@ use Rattle.beacon_facts.specs.Formats.{pending, Seven, PendingTyped, pen
 use Rattle.beacon_facts.proofs.Format.{Written, Laws}
 use Rattle.beacon_facts.proofs.Listed.{pendingListed, pending-listed}
 use Rattle.beacon_facts.proofs.Places.{split-one, byte-small, over, past, past-length, number-first}
-use Rattle.beacon_facts.proofs.Each.{reset-in-use, entries-again, entry-place, entry-at, each-bytes, seven-reset, seven-all}
+use Rattle.beacon_facts.proofs.SideBySide.{entries-again, entry-place, entry-at, each-bytes}
 
 header-again : (b : ℕ) → b < 256 → b % 8 + 16 * bits b 4 3 ≡ clear 3 1 (clear 7 1 b)
 header-again = same (λ b. b % 8 + 16 * bits b 4 3) (λ b. clear 3 1 (clear 7 1 b)) 256 tt

@@ -18,13 +18,13 @@ use Rattle.octets.proofs.Bits.{bit-back, bit-small}
 use Rattle.octets.proofs.Each.{same}
 use Rattle.octets.proofs.Little.{split-length, split-bytes, bytes-append, number-more}
 use Rattle.seven_places.specs.Seven.{reset, some}
-use Rattle.seven_places.proofs.Seven.{seven-length, seven-same, some-fails}
-use Rattle.time_slot.specs.declared.Direction.{Direction}
-use Rattle.time_slot.specs.declared.Direction.the-variants.{Receive, Transmit}
-use Rattle.time_slot.specs.declared.GuaranteedTimeSlotDescriptor.{GuaranteedTimeSlotDescriptor}
-use Rattle.time_slot.specs.Direction.{directionBit, directionOf}
-use Rattle.time_slot.specs.Descriptor.{emptyDescriptor, descriptorIn, descriptorBytes, descriptorTooLarge}
-use Rattle.time_slot.proofs.Descriptor.{descriptor-length}
+use Rattle.seven_places.proofs.Seven.{seven-length, seven-same, seven-reset, seven-all, span, in-use, reset-in-use, span-fails, some-fails}
+use Rattle.time_slots.specs.declared.Direction.{Direction}
+use Rattle.time_slots.specs.declared.Direction.the-variants.{Receive, Transmit}
+use Rattle.time_slots.specs.declared.GuaranteedTimeSlotDescriptor.{GuaranteedTimeSlotDescriptor}
+use Rattle.time_slots.specs.Direction.{directionBit, directionOf}
+use Rattle.time_slots.specs.Descriptor.{emptyDescriptor, descriptorIn, descriptorBytes, descriptorTooLarge}
+use Rattle.time_slots.proofs.Descriptor.{descriptor-length}
 use Rattle.time_slots.specs.declared.GuaranteedTimeSlotInformation.{GuaranteedTimeSlotInformation}
 use Rattle.time_slots.specs.declared.TimeSlotsRead.{TimeSlotsRead}
 use Rattle.time_slots.specs.TimeSlots.{slotsLength, slotsDemand, slotAt, slotsIn, slotCountIn, timeSlotsIn, timeSlotsLengthIn, readTimeSlots, directionsOf, listBytes, timeSlotsHeader, timeSlotsBytes, timeSlotsSize, timeSlotsTooLarge, writeTimeSlots}
@@ -33,7 +33,7 @@ use Rattle.beacon_facts.specs.Formats.{timeSlots, DescriptorTyped, TimeS
 use Rattle.beacon_facts.proofs.Format.{Written, Laws}
 use Rattle.beacon_facts.proofs.Listed.{listListed, timeSlotsListed, time-slots-listed}
 use Rattle.beacon_facts.proofs.Places.{split-one, byte-small, past, past-length, number-first}
-use Rattle.beacon_facts.proofs.Each.{span, in-use, reset-in-use, span-fails, entries-again, entry-place, entry-at, each-bytes, seven-reset, seven-all}
+use Rattle.beacon_facts.proofs.SideBySide.{entries-again, entry-place, entry-at, each-bytes}
 use Rattle.beacon_facts.proofs.Descriptor.{descriptor-fits, descriptor-again, descriptor-more, descriptor-typed, descriptor-back, descriptor-bytes}
 
 -- seven slots take 22 bytes

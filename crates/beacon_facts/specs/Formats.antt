@@ -6,11 +6,11 @@ use Rattle.seven_places.specs.{Seven.reset}
 use Rattle.superframe.specs.{declared.SuperframeSpecification.SuperframeSpecification}
 use Rattle.superframe.specs.{declared.SuperframeRead.SuperframeRead, Superframe.readSuperframe}
 use Rattle.superframe.specs.{Superframe.superframeBytes, Superframe.superframeTooLarge, Superframe.writeSuperframe}
-use Rattle.time_slot.specs.{declared.GuaranteedTimeSlotDescriptor.GuaranteedTimeSlotDescriptor}
-use Rattle.time_slot.specs.{declared.DescriptorRead.DescriptorRead, Descriptor.descriptorOf, Descriptor.emptyDescriptor}
-use Rattle.time_slot.specs.{Descriptor.readDescriptor, Descriptor.descriptorBytes, Descriptor.descriptorTooLarge}
-use Rattle.time_slot.specs.{Descriptor.writeDescriptor}
-use Rattle.time_slot.specs.declared.Direction.the-variants.{Receive}
+use Rattle.time_slots.specs.{declared.GuaranteedTimeSlotDescriptor.GuaranteedTimeSlotDescriptor}
+use Rattle.time_slots.specs.{declared.DescriptorRead.DescriptorRead, Descriptor.descriptorOf, Descriptor.emptyDescriptor}
+use Rattle.time_slots.specs.{Descriptor.readDescriptor, Descriptor.descriptorBytes, Descriptor.descriptorTooLarge}
+use Rattle.time_slots.specs.{Descriptor.writeDescriptor}
+use Rattle.time_slots.specs.declared.Direction.the-variants.{Receive}
 use Rattle.time_slots.specs.{declared.GuaranteedTimeSlotInformation.GuaranteedTimeSlotInformation}
 use Rattle.time_slots.specs.{declared.TimeSlotsRead.TimeSlotsRead, TimeSlots.slotsLength, TimeSlots.slotsDemand}
 use Rattle.time_slots.specs.{TimeSlots.timeSlotsOf, TimeSlots.readTimeSlots, TimeSlots.timeSlotsBytes}

@@ -6,7 +6,7 @@ use lib.ListN.{replicate}
 use Rattle.octets.specs.Little.{split}
 use Rattle.frame_control.specs.declared.AddressMode.the-variants.{None, Short, Extended}
 use Rattle.address.specs.Address.{broadcastOf}
-use Rattle.time_slot.specs.Descriptor.{emptyDescriptor}
+use Rattle.time_slots.specs.Descriptor.{emptyDescriptor}
 use Rattle.time_slots.specs.TimeSlots.{emptyTimeSlots}
 use Rattle.pending.specs.Pending.{emptyPending}
 use Rattle.spell.specs.Said.{paged}

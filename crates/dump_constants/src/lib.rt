@@ -14,7 +14,7 @@ use spell_header::put_address;
 use spell_lists::put_pending;
 use spell_lists::put_slot;
 use spell_lists::put_time_slots;
-use time_slot::GuaranteedTimeSlotDescriptor;
+use time_slots::GuaranteedTimeSlotDescriptor;
 use time_slots::GuaranteedTimeSlotInformation;
 
 // The PAN id, and both addresses as function and as constant.

@@ -2,7 +2,7 @@
 use Prim.Native.Nat.{ℕ}
 use mathlib.Core.List.{List}
 use Rattle.superframe.specs.Superframe.{readSuperframe}
-use Rattle.time_slot.specs.Descriptor.{readDescriptor}
+use Rattle.time_slots.specs.Descriptor.{readDescriptor}
 use Rattle.time_slots.specs.TimeSlots.{readTimeSlots}
 use Rattle.pending.specs.Pending.{readPending}
 use Rattle.beacon.specs.Beacon.{readBeacon}

@@ -3,7 +3,7 @@ use Prim.Native.Nat.{ℕ}
 use mathlib.Core.List.{List}
 use Rattle.octets.specs.Value.{valueOutcome}
 use Rattle.superframe.specs.Superframe.{superframeBytes, writeSuperframe}
-use Rattle.time_slot.specs.Descriptor.{descriptorBytes, writeDescriptor}
+use Rattle.time_slots.specs.Descriptor.{descriptorBytes, writeDescriptor}
 use Rattle.time_slots.specs.TimeSlots.{timeSlotsBytes, writeTimeSlots}
 use Rattle.pending.specs.Pending.{pendingBytes, writePending}
 use Rattle.beacon.specs.Beacon.{beaconBytes, writeBeacon}

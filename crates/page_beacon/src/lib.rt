@@ -21,7 +21,7 @@ use spell_lists::time_slots_of;
 use spell_superframe::put_superframe;
 use spell_superframe::superframe_of;
 use superframe::SuperframeSpecification;
-use time_slot::GuaranteedTimeSlotDescriptor;
+use time_slots::GuaranteedTimeSlotDescriptor;
 use time_slots::GuaranteedTimeSlotInformation;
 
 fn put_beacon(beacon: Beacon, out: &mut [u8], at: usize) -> usize

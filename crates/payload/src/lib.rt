@@ -37,19 +37,13 @@ fn with_beacon(frame: &[u8], header: HeaderRead, at: usize) -> FrameRead
     let read = beacon.outcome;
     if read.number == 0 {
         return FrameRead {
-            outcome: Outcome {
-                number: 0,
-                length: at + read.length,
-            },
+            outcome: Outcome::accepted(at + read.length),
             header,
             beacon,
         };
     }
     FrameRead {
-        outcome: Outcome {
-            number: read.number,
-            length: 0,
-        },
+        outcome: Outcome::refused(read.number),
         header,
         beacon,
     }
@@ -61,10 +55,7 @@ fn without_beacon(outcome: Outcome, header: HeaderRead) -> FrameRead
 {
     let empty = Beacon::new();
     let beacon = BeaconRead {
-        outcome: Outcome {
-            number: 0,
-            length: 0,
-        },
+        outcome: Outcome::accepted(0),
         beacon: empty,
     };
     FrameRead {

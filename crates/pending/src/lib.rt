@@ -119,10 +119,7 @@ impl PendingRead {
     {
         let pending_address = PendingAddress::new();
         PendingRead {
-            outcome: Outcome {
-                number: 1,
-                length: 0,
-            },
+            outcome: Outcome::refused(1),
             pending_address,
         }
     }
@@ -159,7 +156,7 @@ impl PendingAddress {
         let short_addresses = shorts_at(s, at + 1, shorts);
         let extended_addresses = extendeds_at(s, at + 1 + 2 * shorts, extendeds);
         PendingRead {
-            outcome: Outcome { number: 0, length },
+            outcome: Outcome::accepted(length),
             pending_address: PendingAddress {
                 short_address_count: shorts,
                 short_addresses,

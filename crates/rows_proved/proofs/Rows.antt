@@ -16,7 +16,7 @@ use Rattle.header.specs.Read.{securityPart, readRest, readFields, readHeader}
 use Rattle.header.specs.Write.{writeHeader, headerBytes}
 use Rattle.seven_places.specs.Seven.{seven, some}
 use Rattle.superframe.specs.Superframe.{superframeIn, readSuperframe, superframeBytes, superframeTooLarge}
-use Rattle.time_slot.specs.Descriptor.{descriptorIn, descriptorBytes, descriptorTooLarge}
+use Rattle.time_slots.specs.Descriptor.{descriptorIn, descriptorBytes, descriptorTooLarge}
 use Rattle.time_slots.specs.TimeSlots.{slotAt, timeSlotsIn, readTimeSlots, directionsOf, listBytes, timeSlotsBytes, timeSlotsTooLarge, writeTimeSlots}
 use Rattle.pending.specs.Pending.{pendingIn, readPending, pendingBytes, pendingTooLarge}
 use Rattle.beacon.specs.Beacon.{beaconIn, beaconLengthIn, readBeacon, beaconBytes, beaconTooLarge, writeBeacon}

@@ -19,8 +19,8 @@ use Rattle.header_facts.specs.{RoundTrip.rewritten}
 use Rattle.superframe.specs.{declared.SuperframeSpecification.SuperframeSpecification}
 use Rattle.superframe.specs.declared.BeaconOrder.the-variants.{BeaconOrder}
 use Rattle.superframe.specs.declared.SuperframeOrder.the-variants.{SuperframeOrder}
-use Rattle.time_slot.specs.{Descriptor.descriptorOf, Descriptor.emptyDescriptor}
-use Rattle.time_slot.specs.declared.Direction.the-variants.{Transmit}
+use Rattle.time_slots.specs.{Descriptor.descriptorOf, Descriptor.emptyDescriptor}
+use Rattle.time_slots.specs.declared.Direction.the-variants.{Transmit}
 use Rattle.time_slots.specs.{declared.GuaranteedTimeSlotInformation.GuaranteedTimeSlotInformation}
 use Rattle.time_slots.specs.{declared.TimeSlotsRead.TimeSlotsRead, TimeSlots.timeSlotsOf, TimeSlots.readTimeSlots}
 use Rattle.time_slots.specs.{TimeSlots.timeSlotsBytes, TimeSlots.writeTimeSlots}

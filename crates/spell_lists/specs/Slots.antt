@@ -8,9 +8,9 @@ use Rattle.octets.specs.Bits.{bitOf}
 use Rattle.octets.specs.Little.{split, number}
 use Rattle.identifiers.specs.ShortAddress.{short}
 use Rattle.seven_places.specs.Seven.{seven}
-use Rattle.time_slot.specs.declared.GuaranteedTimeSlotDescriptor.{GuaranteedTimeSlotDescriptor}
-use Rattle.time_slot.specs.Direction.{directionBit, directionOf}
-use Rattle.time_slot.specs.Descriptor.{descriptorOf, emptyDescriptor}
+use Rattle.time_slots.specs.declared.GuaranteedTimeSlotDescriptor.{GuaranteedTimeSlotDescriptor}
+use Rattle.time_slots.specs.Direction.{directionBit, directionOf}
+use Rattle.time_slots.specs.Descriptor.{descriptorOf, emptyDescriptor}
 use Rattle.time_slots.specs.declared.GuaranteedTimeSlotInformation.{GuaranteedTimeSlotInformation}
 use Rattle.time_slots.specs.TimeSlots.{timeSlotsOf as timeSlots}
 

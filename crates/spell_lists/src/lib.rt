@@ -20,8 +20,8 @@ use pending::shorts_at;
 use spell::put_byte;
 use spell::put_bytes;
 use spell::put_number;
-use time_slot::Direction;
-use time_slot::GuaranteedTimeSlotDescriptor;
+use time_slots::Direction;
+use time_slots::GuaranteedTimeSlotDescriptor;
 use time_slots::GuaranteedTimeSlotInformation;
 
 pub fn put_slot(slot: GuaranteedTimeSlotDescriptor, out: &mut [u8], at: usize) -> usize

@@ -144,18 +144,12 @@ impl SuperframeSpecification {
     {
         if left(s, at) < 2 {
             return SuperframeRead {
-                outcome: Outcome {
-                    number: 1,
-                    length: 0,
-                },
+                outcome: Outcome::refused(1),
                 superframe_spec: SuperframeSpecification::new(),
             };
         }
         SuperframeRead {
-            outcome: Outcome {
-                number: 0,
-                length: 2,
-            },
+            outcome: Outcome::accepted(2),
             superframe_spec: SuperframeSpecification::at(s, at),
         }
     }

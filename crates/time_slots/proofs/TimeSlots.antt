@@ -16,12 +16,12 @@ use Rattle.octets.proofs.Cases.{cases, holds?, neither}
 use Rattle.octets.proofs.Little.{split-length}
 use Rattle.seven_places.specs.Seven.{some}
 use Rattle.seven_places.proofs.Seven.{rest-next, each-length}
-use Rattle.time_slot.specs.declared.Direction.{Direction}
-use Rattle.time_slot.specs.declared.Direction.the-variants.{Receive, Transmit}
-use Rattle.time_slot.specs.declared.GuaranteedTimeSlotDescriptor.{GuaranteedTimeSlotDescriptor}
-use Rattle.time_slot.specs.Direction.{directionBit}
-use Rattle.time_slot.specs.Descriptor.{descriptorBytes, descriptorTooLarge}
-use Rattle.time_slot.proofs.Descriptor.{descriptor-length}
+use Rattle.time_slots.specs.declared.Direction.{Direction}
+use Rattle.time_slots.specs.declared.Direction.the-variants.{Receive, Transmit}
+use Rattle.time_slots.specs.declared.GuaranteedTimeSlotDescriptor.{GuaranteedTimeSlotDescriptor}
+use Rattle.time_slots.specs.Direction.{directionBit}
+use Rattle.time_slots.specs.Descriptor.{descriptorBytes, descriptorTooLarge}
+use Rattle.time_slots.proofs.Descriptor.{descriptor-length}
 use Rattle.time_slots.specs.declared.GuaranteedTimeSlotInformation.{GuaranteedTimeSlotInformation}
 use Rattle.time_slots.specs.TimeSlots.{slotsLength, slotsDemand, slotCountIn, timeSlotsIn, timeSlotsLengthIn, readTimeSlots, directionsOf, listBytes, timeSlotsTooLarge}
 

@@ -4,9 +4,9 @@ use Rattle.octets.specs.Words.{ℕ, zero, suc, _+_, _*_, _%_, Bool, false, _||_
 use Rattle.octets.specs.{declared.ValueWritten.ValueWritten, Bits.bits, Bits.bit, Bits.bitOf, Little.number}
 use Rattle.octets.specs.{Little.split, Order.first, Outcome.accepted, Outcome.refused, Part.ends, Value.writeValue}
 use Rattle.seven_places.specs.{Seven.seven, Seven.some}
-use Rattle.time_slot.specs.{declared.GuaranteedTimeSlotDescriptor.GuaranteedTimeSlotDescriptor, Direction.directionBit}
-use Rattle.time_slot.specs.{Direction.directionOf, Descriptor.emptyDescriptor, Descriptor.descriptorIn}
-use Rattle.time_slot.specs.{Descriptor.descriptorBytes, Descriptor.descriptorTooLarge}
+use Rattle.time_slots.specs.{declared.GuaranteedTimeSlotDescriptor.GuaranteedTimeSlotDescriptor, Direction.directionBit}
+use Rattle.time_slots.specs.{Direction.directionOf, Descriptor.emptyDescriptor, Descriptor.descriptorIn}
+use Rattle.time_slots.specs.{Descriptor.descriptorBytes, Descriptor.descriptorTooLarge}
 use Rattle.time_slots.specs.{declared.GuaranteedTimeSlotInformation.GuaranteedTimeSlotInformation}
 use Rattle.time_slots.specs.{declared.TimeSlotsRead.TimeSlotsRead}
 

@@ -4,7 +4,7 @@ use mathlib.Core.Path.{_∙_}
 use native.Mathlib.Omega.{arith}
 use borrow.Author.Needs.{needs}
 use denote.Ref.{now}
-use Rattle.beacon_measure.proofs.Laws.{ended, all-there, beacon-least, beacon-parts}
+use Rattle.beacon_measure.proofs.BeaconLength.{ended, all-there, beacon-least, beacon-parts}
 use Rattle.beacon_measure.proofs.measure_beacon.Statement.{statement}
 use Rattle.beacon_measure.proofs.measure_beacon.Tie as tie
 

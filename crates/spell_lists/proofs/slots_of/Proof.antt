@@ -6,7 +6,7 @@ use mathlib.Core.Path.{_≡_, sym, ap, _∙_}
 use borrow.Author.Needs.{needs}
 use Rattle.seven_places.specs.Seven.{seven}
 use Rattle.seven_places.proofs.Seven.{seven-none, seven-more}
-use Rattle.time_slot.specs.Descriptor.{emptyDescriptor}
+use Rattle.time_slots.specs.Descriptor.{emptyDescriptor}
 use Rattle.spell_lists.specs.Slots.{slotOf}
 use Rattle.spell_lists.proofs.slots_of.Statement.{statement}
 use Rattle.spell_lists.proofs.slots_of.Tie as tie

@@ -28,7 +28,7 @@ slots-room c κs =
     let first = c .before .before .before in
     let test = first .before .before .before in
     let a = test .before .before in
-    (a .pre .0, (a .pre .1 .0, omega (arith, first .put .kept .0, first .put .ensures .0, length-some (a .args .n) (test .if1 .left), a .pre .1 .1)))
+    (a .pre .0, (a .pre .1 .0, omega (arith, first .put .kept .1 .1 .0, first .put .ensures .0, length-some (a .args .n) (test .if1 .left), a .pre .1 .1)))
 
 some : tie.Need-returns-2
 some c =

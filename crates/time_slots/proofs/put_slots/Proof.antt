@@ -7,8 +7,8 @@ use mathlib.Core.Path.{_≡_, refl, sym, _∙_}
 use lib.ListN.{length, take, drop}
 use Rattle.octets.specs.Buffer.{laid}
 use Rattle.seven_places.proofs.Seven.{some-fails, put-next, put-done}
-use Rattle.time_slot.specs.Descriptor.{descriptorBytes, descriptorTooLarge}
-use Rattle.time_slot.proofs.Descriptor.{descriptor-length}
+use Rattle.time_slots.specs.Descriptor.{descriptorBytes, descriptorTooLarge}
+use Rattle.time_slots.proofs.Descriptor.{descriptor-length}
 use Rattle.time_slots.proofs.put_slots.Statement.{statement}
 use Rattle.time_slots.proofs.put_slots.Tie as tie
 

@@ -7,7 +7,7 @@ use borrow.Author.Needs.{needs}
 use lib.ListN.{take, drop}
 use Rattle.seven_places.specs.Seven.{some}
 use Rattle.seven_places.proofs.Seven.{some-none, some-found, some-passed}
-use Rattle.time_slot.specs.Descriptor.{descriptorTooLarge}
+use Rattle.time_slots.specs.Descriptor.{descriptorTooLarge}
 use Rattle.time_slots.proofs.some_too_large.Statement.{statement}
 use Rattle.time_slots.proofs.some_too_large.Tie as tie
 

@@ -100,13 +100,14 @@ pending-end c =
 all : tie.Need-returns-4
 unfolding readBeacon beaconIn beaconLengthIn
 all c =
-    let three = c .before .before .before in
+    let joining = c .before in
+    let three = joining .before .before .before in
     let two = three .before .before .before .before in
     let one = two .before .before .before in
-    simp (c .joined .ensures, superframe one .0, superframe one .1, slots two .0, slots two .1, pending three .0, pending three .1)
+    simp (c .accepted .ensures, joining .joined .ensures, superframe one .0, superframe one .1, slots two .0, slots two .1, pending three .0, pending three .1)
 
 pub read-spec : {M : Type 1} → statement M
 read-spec =
     tie.close
     (tie.spec (λ c κs. search needs) (λ c κs. search needs) no-superframe second-place (λ c κs. search needs) (λ c κs. search needs) no-slots second-place-again third-place
-    (λ c κs. search needs) (λ c κs. search needs) no-pending slots-end pending-end (λ c κs. search needs) all)
+    (λ c κs. search needs) (λ c κs. search needs) no-pending slots-end pending-end (λ c κs. search needs) (λ c κs. search needs) all)
