@@ -12,7 +12,7 @@ returns c =
     let second = c .before .before .put2 in
     let call = c .before .before .before .before .before .before .before in
     second .ensures .1
-    ∙ rw (call .put .ensures .1, call .before .to-bits .ensures, call .before .before .before .written-control .ensures)
+    ∙ rw (call .put .ensures .1, call .before .before .to-bits .ensures, call .before .before .before .written-control .ensures)
     (laid-join _ 0 2 2 _ _ (split-length 2 _) refl)
 
 pub put-fixed-spec : {M : Type 1} → statement M

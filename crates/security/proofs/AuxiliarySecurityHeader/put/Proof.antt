@@ -17,7 +17,7 @@ returns c =
     let third = c .before .before .before .before .before .before .before .before .before .before in
     let control = third .put in (
       omega (arith, key .ensures .0, counter .ensures .0, control .ensures .0),
-      key .ensures .1 ∙ rw (counter .ensures .1, control .ensures .1, third .before .written-control .ensures .0)
+      key .ensures .1 ∙ rw (counter .ensures .1, control .ensures .1, third .before .before .written-control .ensures .0)
           (laid-join _ _ _ 4 _ _ (split-length 4 _) (counter .ensures .0) ∙ laid-join _ _ _ 1 _ _ (split-length 1 _) (control .ensures .0)),
     )
 

@@ -18,7 +18,7 @@ written c =
     let room = c .before .before .before .before .before in
     let level = room .before .before .before in (
       simp (le-ltb _ _ (level .if1 .left), enough (room .before .left .ensures) (room .if2 .left)),
-      rw (← c .before .before .before .to-bits .ensures .0) (c .before .before .put .ensures .1),
+      rw (← c .before .before .before .before .to-bits .ensures .0) (c .before .before .put .ensures .1),
     )
 
 pub write-spec : {M : Type 1} → statement M
