@@ -17,14 +17,22 @@ use Rattle.beacon_facts.proofs.Places.{past-length}
 
 module _ {A : Type 0} where
   -- written again as they stood
-  module _ (bytes : A → List ℕ) (w : ℕ) (s : List ℕ) (at n : ℕ) (entry : ℕ → A) (stood : (k : ℕ) → k < n → bytes (entry k) ≡ take w (drop (at + w * k) s)) where
+  module _ (bytes : A → List ℕ) (w : ℕ) (s : List ℕ) (at n : ℕ) (entry : ℕ → A)
+      (stood : (k : ℕ) → k < n → bytes (entry k) ≡ take w (drop (at + w * k) s)) where
     span-again : (i m : ℕ) → i + m ≤ n → flatMap bytes (span entry i m) ≡ take (w * m) (drop (at + w * i) s)
     unfolding flatMap
     span-again i zero h = rw (mul-zero w)
     span-again i (suc m) h =
         let next : at + w * (i + 1) ≡ at + w * i + w = rw mul-add (omega arith) in
         let more : w * suc m ≡ w + w * m = rw mul-suc (omega arith) in
-        rw (stood i (omega arith), span-again (i + 1) m (omega arith), more, take-add w (w * m) (drop (at + w * i) s), drop-drop w (at + w * i) s, next)
+        rw (
+          stood i (omega arith),
+          span-again (i + 1) m (omega arith),
+          more,
+          take-add w (w * m) (drop (at + w * i) s),
+          drop-drop w (at + w * i) s,
+          next,
+        )
 
     pub entries-again : (empty : A) → n ≤ 7 → flatMap bytes (take n (seven entry empty n)) ≡ take (w * n) (drop at s)
     entries-again empty h =
@@ -32,7 +40,8 @@ module _ {A : Type 0} where
         rw (in-use entry empty n h, span-again 0 n (omega arith), start)
 
   -- read back from what was written
-  module _ (bytes : A → List ℕ) (w : ℕ) (long : (x : A) → length (bytes x) ≡ w) (l : List A) (n : ℕ) (few : n ≤ length l) (k : ℕ) (h : k < n) (d : A) where
+  module _ (bytes : A → List ℕ) (w : ℕ) (long : (x : A) → length (bytes x) ≡ w) (l : List A) (n : ℕ) (few : n ≤ length l) (k : ℕ)
+      (h : k < n) (d : A) where
     parted : flatMap bytes (take n l) ≡ flatMap bytes (take k l) ++ (bytes (getD l k d) ++ flatMap bytes (drop (k + 1) (take n l)))
     unfolding flatMap
     parted =

@@ -14,7 +14,7 @@ pub fn time_slots_length(s: &[u8], at: usize) -> usize
     ensures { λ r. ⌜ r ≡ timeSlotsLengthIn (now (s .entry)) at ⌝ }
     ensures { λ r. ⌜ r ≤ 23 ⌝ }
 {
-    1 + slots_length((u8_at(s, at) % 8) as usize)
+    1 + slots_length((u8_at(s, at) as usize) % 8)
 }
 
 // Bytes of the pending addresses at a place. Asks that their header is there.
@@ -23,10 +23,8 @@ fn pending_length(s: &[u8], at: usize) -> usize
     ensures { λ r. ⌜ r ≡ pendingLengthIn (now (s .entry)) at ⌝ }
     ensures { λ r. ⌜ r ≤ 71 ⌝ }
 {
-    let header = u8_at(s, at);
-    let shorts = (header % 8) as usize;
-    let extendeds = (header / 16 % 8) as usize;
-    1 + (2 * shorts + 8 * extendeds)
+    let header = u8_at(s, at) as usize;
+    1 + (2 * (header % 8) + 8 * (header / 16 % 8))
 }
 
 // What reading the beacon at a place answers: 0 and its length, or 1 and 0 where its bytes are not all there.

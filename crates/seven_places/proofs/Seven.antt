@@ -38,7 +38,8 @@ module _ {A : Type 0} where
   seven-more entry empty (suc (suc (suc (suc (suc (suc (suc k))))))) h = absurd (omega arith)
 
   -- equal where the entries in use are
-  picked : (f g : ℕ → A) (empty : A) (n : ℕ) → ((k : ℕ) → k < n → f k ≡ g k) → (k : ℕ) → cond (ltb k n) (f k) empty ≡ cond (ltb k n) (g k) empty
+  picked : (f g : ℕ → A) (empty : A) (n : ℕ) → ((k : ℕ) → k < n → f k ≡ g k) → (k : ℕ) →
+      cond (ltb k n) (f k) empty ≡ cond (ltb k n) (g k) empty
   picked f g empty n h k = cases (holds? (ltb k n)) (λ e. simp (e, h k (ltb-true k n e))) (λ e. simp e)
 
   pub seven-same : (f g : ℕ → A) (empty : A) (n : ℕ) → ((k : ℕ) → k < n → f k ≡ g k) → seven f empty n ≡ seven g empty n
@@ -62,10 +63,12 @@ module _ {A : Type 0} where
   -- unused places are empty already
   pub seven-reset : (entry : ℕ → A) (empty : A) (n : ℕ) → n ≤ 7 → reset (seven entry empty n) empty n ≡ seven entry empty n
   seven-reset entry empty n h =
-      seven-same (λ (k : ℕ). getD (seven entry empty n) k empty) entry empty n (λ k l. seven-entry entry empty n k (omega arith) ∙ rw (lt-ltb k n l))
+      seven-same (λ (k : ℕ). getD (seven entry empty n) k empty) entry empty n
+      (λ k l. seven-entry entry empty n k (omega arith) ∙ rw (lt-ltb k n l))
 
   -- what holds of the empty entry and of those in use holds of all seven
-  pub seven-all : (P : A → Type 0) (entry : ℕ → A) (empty : A) (n : ℕ) → P empty → ((k : ℕ) → k < n → P (entry k)) → (k : ℕ) → k < 7 → P (getD (seven entry empty n) k empty)
+  pub seven-all : (P : A → Type 0) (entry : ℕ → A) (empty : A) (n : ℕ) → P empty → ((k : ℕ) → k < n → P (entry k)) → (k : ℕ) → k < 7 →
+      P (getD (seven entry empty n) k empty)
   seven-all P entry empty n none some k h =
       rw (seven-entry entry empty n k h)
       (cases (holds? (ltb k n)) (λ e. rw e (some k (ltb-true k n e))) (λ e. rw e none))
@@ -127,7 +130,8 @@ module _ {A : Type 0} where
   fails-each test (x ∷ l) zero d e h = neither (test x) (some test l) e .0
   fails-each test (x ∷ l) (suc i) d e h = fails-each test l i d (neither (test x) (some test l) e .1) (omega arith)
 
-  pub some-fails : (test : A → Bool) (l : List A) (n i : ℕ) (d : A) → n ≤ length l → i < n → some test (take n l) ≡ false → test (getD l i d) ≡ false
+  pub some-fails : (test : A → Bool) (l : List A) (n i : ℕ) (d : A) → n ≤ length l → i < n → some test (take n l) ≡ false →
+      test (getD l i d) ≡ false
   some-fails test l n i d k h e = rw (getD-take n l i d h) at (fails-each test (take n l) i d e (rw (length-take-le n l k) h))
 
   -- a test that fails of each entry fails of all
@@ -150,7 +154,8 @@ module _ {A : Type 0} where
     unfolding flatMap
     put-done out p h = rw (rest-none l n i h) (laid-none out p)
 
-  pub each-length : (bytes : A → List ℕ) (w : ℕ) → ((x : A) → length (bytes x) ≡ w) → (l : List A) (n : ℕ) → n ≤ length l → length (flatMap bytes (take n l)) ≡ w * n
+  pub each-length : (bytes : A → List ℕ) (w : ℕ) → ((x : A) → length (bytes x) ≡ w) → (l : List A) (n : ℕ) → n ≤ length l →
+      length (flatMap bytes (take n l)) ≡ w * n
   unfolding flatMap
   each-length bytes w long l zero h = sym (mul-zero w)
   each-length bytes w long [] (suc n) h = absurd (omega arith)

@@ -19,7 +19,9 @@ emptyDescriptor = descriptorOf (short 0xffff) 0 0 Receive
 
 -- the descriptor at a place, with its direction, which stands elsewhere
 unfoldable pub descriptorIn : List ℕ → ℕ → Direction → GuaranteedTimeSlotDescriptor
-descriptorIn s at direction = descriptorOf (short (number s at 2)) (number s (at + 2) 1 % 16) (bits (number s (at + 2) 1) 4 4) direction
+descriptorIn s at direction =
+    let slot = number s (at + 2) 1 in
+    descriptorOf (short (number s at 2)) (slot % 16) (bits slot 4 4) direction
 
 -- and what reading it there alone answers
 unfoldable pub readDescriptor : List ℕ → ℕ → DescriptorRead

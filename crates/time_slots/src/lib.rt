@@ -21,6 +21,7 @@ use octets::put;
 use octets::u8_at;
 use octets::u16_at;
 
+// Which way a slot is used.
 pub enum Direction {
     Receive,
     Transmit,
@@ -51,6 +52,7 @@ impl Direction {
     }
 }
 
+// One slot of the list.
 pub struct GuaranteedTimeSlotDescriptor {
     // The device that the slot is for.
     pub short_address: ShortAddress,
@@ -94,7 +96,8 @@ impl GuaranteedTimeSlotDescriptor {
         }
     }
 
-    // Read alone it is Receive, as in an unused place.
+    // Reads the three bytes at a place: refusal 1 where they are not there. Read alone it is Receive, as in an unused
+    // place.
     pub fn read(s: &[u8], at: usize) -> DescriptorRead
         ensures { λ r. ⌜ r ≡ readDescriptor (now (s .entry)) at ⌝ }
     {
@@ -134,7 +137,7 @@ impl GuaranteedTimeSlotDescriptor {
         put(slot as u64, 1, out, next)
     }
 
-    // The direction has no bit of its own here.
+    // Writes the three bytes at a place; refused, out keeps every byte. The direction has no bit of its own here.
     pub fn write(self, out: &mut [u8], at: usize) -> ValueWritten
         ensures { λ r. ⌜ r ≡ writeDescriptor self (now (out .entry)) at ⌝ }
         ensures { λ r. ⌜ now (out .exit) ≡ after (valueOutcome r) (now (out .entry)) at (descriptorBytes self) ⌝ }
@@ -243,7 +246,8 @@ fn put_slots(slots: [GuaranteedTimeSlotDescriptor; 7], n: usize, out: &mut [u8],
     at + 3 * n
 }
 
-// Stores what follows the header: for any slot, the directions and the slots. Asks as above.
+// Stores what follows the header: for any slot, the directions and the slots. Asks that no number is too large, and for
+// that room.
 fn put_list(slots: [GuaranteedTimeSlotDescriptor; 7], n: usize, out: &mut [u8], at: usize) -> usize
     requires { ⌜ n ≤ 7 ⌝ }
     requires { ⌜ some descriptorTooLarge (take n slots) ≡ false ⌝ }
@@ -260,6 +264,7 @@ fn put_list(slots: [GuaranteedTimeSlotDescriptor; 7], n: usize, out: &mut [u8], 
     put_slots(slots, n, out, next)
 }
 
+// The header and the list.
 pub struct GuaranteedTimeSlotInformation {
     // The coordinator takes requests for slots.
     pub permit: bool,
@@ -299,8 +304,8 @@ impl GuaranteedTimeSlotInformation {
         }
     }
 
-    // Read alone, it wants to see one byte more behind its slots than it takes, as the crate does: in a beacon another
-    // part follows.
+    // Reads it at a place: refusal 1 where its bytes are not all there. Read alone, it wants to see one byte more
+    // behind its slots than it takes, as the crate does: in a beacon another part follows.
     pub fn read(s: &[u8], at: usize) -> TimeSlotsRead
         ensures { λ r. ⌜ r ≡ readTimeSlots (now (s .entry)) at ⌝ }
     {
@@ -365,6 +370,7 @@ impl GuaranteedTimeSlotInformation {
         put_list(slots, self.slot_count, out, next)
     }
 
+    // Writes it at a place; refused, out keeps every byte.
     pub fn write(self, out: &mut [u8], at: usize) -> ValueWritten
         ensures { λ r. ⌜ r ≡ writeTimeSlots self (now (out .entry)) at ⌝ }
         ensures { λ r. ⌜ now (out .exit) ≡ after (valueOutcome r) (now (out .entry)) at (timeSlotsBytes self) ⌝ }

@@ -12,4 +12,4 @@ pub pending-length-spec : {M : Type 1} → statement M
 pending-length-spec =
     tie.close
     (tie.spec (λ c κs. search needs) (λ c. search needs) (λ c. search needs) (λ c. search needs) (λ c. search needs)
-    (λ c. search needs) (λ c. search needs) returns)
+    (λ c. search needs) returns)

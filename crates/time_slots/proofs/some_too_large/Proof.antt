@@ -43,4 +43,5 @@ none c =
 pub some-too-large-spec : {M : Type 1} → statement M
 some-too-large-spec =
     tie.close
-    (tie.spec Inv-loop μ-loop (λ c. (omega arith, refl)) (λ c. omega arith) (λ c. omega arith) (λ c κs. search needs) found (λ c. omega arith) (λ c. omega arith) passed none)
+    (tie.spec Inv-loop μ-loop (λ c. (omega arith, refl)) (λ c. omega arith) (λ c. omega arith) (λ c κs. search needs) found
+    (λ c. omega arith) (λ c. omega arith) passed none)

@@ -17,8 +17,10 @@ write-spec =
     (λ c κs. search needs) (λ c. search needs)
     (λ c.
     let size = c .before .before .before in
-    let test = size .before in
-    (no-room (test .before .too-large .ensures) (test .if1 .left) (size .size .ensures .0) (c .before .left .ensures) (c .if2 .taken), refl))
+    let test = size .before in (
+      no-room (test .before .too-large .ensures) (test .if1 .left) (size .size .ensures .0) (c .before .left .ensures) (c .if2 .taken),
+      refl,
+    ))
     (λ c κs.
     let room = c .before in
     let size = room .before .before .before in

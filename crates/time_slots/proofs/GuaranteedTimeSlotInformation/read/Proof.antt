@@ -28,8 +28,15 @@ no-slots c =
 there : tie.Need-slots-at-requires
 there c κs =
     let demand = c .before in
-    let header = demand .before .before in
-    (omega arith, omega (arith, demand .slots-demand .ensures .0, demand .before .left2 .ensures, demand-enough (header .u8-at .result % 8)))
+    let header = demand .before .before in (
+      omega arith,
+      omega (
+        arith,
+        demand .slots-demand .ensures .0,
+        demand .before .left2 .ensures,
+        demand-enough (header .u8-at .result % 8),
+      ),
+    )
 
 all : tie.Need-returns-3
 unfolding readTimeSlots timeSlotsIn
@@ -50,5 +57,7 @@ all c =
 pub read-spec : {M : Type 1} → statement M
 read-spec =
     tie.close
-    (tie.spec (λ c κs. search needs) (λ c κs. search needs) no-header (λ c κs. search needs) (λ c. search needs) (λ c κs. search needs) (λ c κs. search needs)
-    (λ c. search needs) (λ c κs. search needs) no-slots (λ c. search needs) there (λ c κs. search needs) (λ c. search needs) (λ c κs. search needs) all)
+    (tie.spec (λ c κs. search needs) (λ c κs. search needs) no-header (λ c κs. search needs) (λ c. search needs) (λ c κs. search needs)
+    (λ c κs. search needs)
+    (λ c. search needs) (λ c κs. search needs) no-slots (λ c. search needs) there (λ c κs. search needs) (λ c. search needs)
+    (λ c κs. search needs) all)
