@@ -144,7 +144,8 @@ pub fn address_at(
     }
 }
 
-fn put_pan(out: &mut [u8], at: usize, own: bool, pan_id: PanId) -> usize
+// Stores a PAN id where it is in the frame, else nothing, and returns the place behind it. Asks for its room.
+fn put_pan(pan_id: PanId, own: bool, out: &mut [u8], at: usize) -> usize
     requires { ⌜ at + panLength own ≤ length (now out) ⌝ }
     ensures { λ r. ⌜ r ≡ at + panLength own ⌝ }
     ensures { λ r. ⌜ now (out .exit) ≡ laid (now (out .entry)) at (panBytes own «pan_id») ⌝ }
@@ -156,19 +157,19 @@ fn put_pan(out: &mut [u8], at: usize, own: bool, pan_id: PanId) -> usize
     }
 }
 
-// A PAN id, where it is in the frame, and then an address of n bytes.
-fn put_pair(out: &mut [u8], at: usize, own: bool, pan_id: PanId, n: usize, v: u64) -> usize
+// Stores a PAN id, where it is in the frame, and then the n low bytes of v. Asks for their room.
+fn put_pair(pan_id: PanId, own: bool, v: u64, n: usize, out: &mut [u8], at: usize) -> usize
     requires { ⌜ n ≤ 8 ⌝ }
     requires { ⌜ at + (panLength own + n) ≤ length (now out) ⌝ }
     ensures { λ r. ⌜ r ≡ at + (panLength own + n) ⌝ }
     ensures { λ r. ⌜ now (out .exit) ≡ laid (now (out .entry)) at (panBytes own «pan_id» ++ split n v) ⌝ }
 {
-    let next = put_pan(out, at, own, pan_id);
+    let next = put_pan(pan_id, own, out, at);
     put(v, n, out, next)
 }
 
-// Stores an address at a place and returns the place behind it. Asks for its room.
-pub fn put_address(out: &mut [u8], at: usize, address: OptionalAddress, own: bool) -> usize
+// Stores an address, or nothing, at a place and returns the place behind it. Asks for its room.
+pub fn put_address(address: OptionalAddress, own: bool, out: &mut [u8], at: usize) -> usize
     requires { ⌜ at + addressLength own address ≤ length (now out) ⌝ }
     ensures { λ r. ⌜ r ≡ at + addressLength own address ⌝ }
     ensures { λ r. ⌜ now (out .exit) ≡ laid (now (out .entry)) at (addressBytes own address) ⌝ }
@@ -177,7 +178,7 @@ pub fn put_address(out: &mut [u8], at: usize, address: OptionalAddress, own: boo
         return at;
     };
     match present {
-        Address::Short(pan_id, short) => put_pair(out, at, own, pan_id, 2, short.0 as u64),
-        Address::Extended(pan_id, extended) => put_pair(out, at, own, pan_id, 8, extended.0),
+        Address::Short(pan_id, short) => put_pair(pan_id, own, short.0 as u64, 2, out, at),
+        Address::Extended(pan_id, extended) => put_pair(pan_id, own, extended.0, 8, out, at),
     }
 }

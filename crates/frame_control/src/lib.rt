@@ -29,14 +29,8 @@ impl FrameTypeRead {
         ensures { λ r. ⌜ r ≡ typeOutcome self ⌝ }
     {
         match self {
-            FrameTypeRead::Read(_) => Outcome {
-                number: 0,
-                length: 0,
-            },
-            FrameTypeRead::Refused => Outcome {
-                number: 3,
-                length: 0,
-            },
+            FrameTypeRead::Read(_) => Outcome::accepted(0),
+            FrameTypeRead::Refused => Outcome::refused(3),
         }
     }
 }
@@ -91,14 +85,8 @@ impl FrameVersionRead {
         ensures { λ r. ⌜ r ≡ versionOutcome self ⌝ }
     {
         match self {
-            FrameVersionRead::Read(_) => Outcome {
-                number: 0,
-                length: 0,
-            },
-            FrameVersionRead::Refused => Outcome {
-                number: 2,
-                length: 0,
-            },
+            FrameVersionRead::Read(_) => Outcome::accepted(0),
+            FrameVersionRead::Refused => Outcome::refused(2),
         }
     }
 }
@@ -144,14 +132,8 @@ impl AddressModeRead {
         ensures { λ r. ⌜ r ≡ modeOutcome self ⌝ }
     {
         match self {
-            AddressModeRead::Read(_) => Outcome {
-                number: 0,
-                length: 0,
-            },
-            AddressModeRead::Refused => Outcome {
-                number: 4,
-                length: 0,
-            },
+            AddressModeRead::Read(_) => Outcome::accepted(0),
+            AddressModeRead::Refused => Outcome::refused(4),
         }
     }
 }
@@ -211,23 +193,11 @@ impl FrameControlRead {
         ensures { λ r. ⌜ r ≡ controlOutcome self ⌝ }
     {
         match self {
-            FrameControlRead::Read(_) => Outcome {
-                number: 0,
-                length: 2,
-            },
+            FrameControlRead::Read(_) => Outcome::accepted(2),
             FrameControlRead::Refused(refusal) => match refusal {
-                FrameControlRefusal::Version => Outcome {
-                    number: 2,
-                    length: 0,
-                },
-                FrameControlRefusal::FrameType => Outcome {
-                    number: 3,
-                    length: 0,
-                },
-                FrameControlRefusal::AddressMode => Outcome {
-                    number: 4,
-                    length: 0,
-                },
+                FrameControlRefusal::Version => Outcome::refused(2),
+                FrameControlRefusal::FrameType => Outcome::refused(3),
+                FrameControlRefusal::AddressMode => Outcome::refused(4),
             },
         }
     }

@@ -59,14 +59,8 @@ impl HeaderRead {
         ensures { λ r. ⌜ r ≡ readOutcome self ⌝ }
     {
         match self {
-            HeaderRead::Read(_, n) => Outcome {
-                number: 0,
-                length: n,
-            },
-            HeaderRead::Refused(refusal) => Outcome {
-                number: refusal.number(),
-                length: 0,
-            },
+            HeaderRead::Read(_, n) => Outcome::accepted(n),
+            HeaderRead::Refused(refusal) => Outcome::refused(refusal.number()),
         }
     }
 }
@@ -100,26 +94,11 @@ impl HeaderWritten {
         ensures { λ r. ⌜ r ≡ writtenOutcome self ⌝ }
     {
         match self {
-            HeaderWritten::Written(n) => Outcome {
-                number: 0,
-                length: n,
-            },
-            HeaderWritten::TooLarge => Outcome {
-                number: 8,
-                length: 0,
-            },
-            HeaderWritten::Full => Outcome {
-                number: 1,
-                length: 0,
-            },
-            HeaderWritten::Compression => Outcome {
-                number: 6,
-                length: 0,
-            },
-            HeaderWritten::MissingCounter => Outcome {
-                number: 7,
-                length: 0,
-            },
+            HeaderWritten::Written(n) => Outcome::accepted(n),
+            HeaderWritten::TooLarge => Outcome::refused(8),
+            HeaderWritten::Full => Outcome::refused(1),
+            HeaderWritten::Compression => Outcome::refused(6),
+            HeaderWritten::MissingCounter => Outcome::refused(7),
         }
     }
 }
@@ -169,22 +148,16 @@ fn refusal_of(refusal: FrameControlRefusal) -> HeaderRefusal
     }
 }
 
-// What stands behind the addresses, which are there, and the header made of it all.
+// What stands behind the frame control, where the addresses are there, and the header made of it all.
 fn read_rest(s: &[u8], c: FrameControl, destination_end: usize, source_end: usize) -> HeaderRead
     requires { ⌜ «destination_end» ≡ destinationEnd c ⌝ }
     requires { ⌜ «source_end» ≡ sourceEnd c ⌝ }
     requires { ⌜ sourceEnd c ≤ length (now s) ⌝ }
     ensures { λ r. ⌜ r ≡ readRest (now (s .entry)) c ⌝ }
 {
-    let SecurityPart::Read(auxiliary_security_header, end) = security_part(
-        s,
-        source_end,
-        c.security,
-    ) else {
-        return HeaderRead::Refused(HeaderRefusal::Ended);
-    };
     let to = c.destination;
     let from = c.source;
+    let seq = u8_at(s, 2);
     let destination = address_at(s, 3, to, true, PanId(0));
     let source = address_at(
         s,
@@ -193,6 +166,13 @@ fn read_rest(s: &[u8], c: FrameControl, destination_end: usize, source_end: usiz
         !c.pan_id_compress,
         destination.shared_pan(),
     );
+    let SecurityPart::Read(auxiliary_security_header, end) = security_part(
+        s,
+        source_end,
+        c.security,
+    ) else {
+        return HeaderRead::Refused(HeaderRefusal::Ended);
+    };
     let frame_type = c.frame_type;
     let version = c.version;
     HeaderRead::Read(
@@ -204,7 +184,7 @@ fn read_rest(s: &[u8], c: FrameControl, destination_end: usize, source_end: usiz
             seq_no_suppress: c.seq_no_suppress,
             ie_present: c.ie_present,
             version,
-            seq: u8_at(s, 2),
+            seq,
             destination,
             source,
             auxiliary_security_header,
@@ -385,8 +365,8 @@ impl Header {
     {
         let destination = self.destination;
         let source = self.source;
-        let next = put_address(out, 3, destination, true);
-        put_address(out, next, source, !self.pan_id_compress)
+        let next = put_address(destination, true, out, 3);
+        put_address(source, !self.pan_id_compress, out, next)
     }
 
     // Stores the whole header at the beginning. Asks for its room.
@@ -406,15 +386,10 @@ impl Header {
         ensures { λ r. ⌜ r ≡ writeHeader self counter (length (now (out .entry))) ⌝ }
         ensures { λ r. ⌜ now (out .exit) ≡ after (writtenOutcome r) (now (out .entry)) 0 (headerBytes self (counterOf counter)) ⌝ }
     {
-        match self.write_answer(counter, out.len()) {
-            HeaderWritten::Written(n) => {
-                self.put(out, counter.number());
-                HeaderWritten::Written(n)
-            }
-            HeaderWritten::TooLarge => HeaderWritten::TooLarge,
-            HeaderWritten::Full => HeaderWritten::Full,
-            HeaderWritten::Compression => HeaderWritten::Compression,
-            HeaderWritten::MissingCounter => HeaderWritten::MissingCounter,
+        let answer = self.write_answer(counter, out.len());
+        if let HeaderWritten::Written(_) = answer {
+            self.put(out, counter.number());
         }
+        answer
     }
 }

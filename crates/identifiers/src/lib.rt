@@ -27,14 +27,8 @@ impl PanIdRead {
         ensures { λ r. ⌜ r ≡ panIdOutcome self ⌝ }
     {
         match self {
-            PanIdRead::Read(_) => Outcome {
-                number: 0,
-                length: 2,
-            },
-            PanIdRead::Ended => Outcome {
-                number: 1,
-                length: 0,
-            },
+            PanIdRead::Read(_) => Outcome::accepted(2),
+            PanIdRead::Ended => Outcome::refused(1),
         }
     }
 }
@@ -78,14 +72,8 @@ impl ShortAddressRead {
         ensures { λ r. ⌜ r ≡ shortOutcome self ⌝ }
     {
         match self {
-            ShortAddressRead::Read(_) => Outcome {
-                number: 0,
-                length: 2,
-            },
-            ShortAddressRead::Ended => Outcome {
-                number: 1,
-                length: 0,
-            },
+            ShortAddressRead::Read(_) => Outcome::accepted(2),
+            ShortAddressRead::Ended => Outcome::refused(1),
         }
     }
 }
@@ -129,14 +117,8 @@ impl ExtendedAddressRead {
         ensures { λ r. ⌜ r ≡ extendedOutcome self ⌝ }
     {
         match self {
-            ExtendedAddressRead::Read(_) => Outcome {
-                number: 0,
-                length: 8,
-            },
-            ExtendedAddressRead::Ended => Outcome {
-                number: 1,
-                length: 0,
-            },
+            ExtendedAddressRead::Read(_) => Outcome::accepted(8),
+            ExtendedAddressRead::Ended => Outcome::refused(1),
         }
     }
 }

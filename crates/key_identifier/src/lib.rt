@@ -86,7 +86,7 @@ pub fn key_at(s: &[u8], at: usize, mode: KeyIdentifierMode) -> OptionalKeyIdenti
 }
 
 // Stores a key source, or nothing, at a place and returns the place behind it. Asks for its room.
-fn put_source(out: &mut [u8], at: usize, source: OptionalKeySource) -> usize
+fn put_source(source: OptionalKeySource, out: &mut [u8], at: usize) -> usize
     requires { ⌜ at + sourceLength source ≤ length (now out) ⌝ }
     ensures { λ r. ⌜ r ≡ at + sourceLength source ⌝ }
     ensures { λ r. ⌜ now (out .exit) ≡ laid (now (out .entry)) at (sourceBytes source) ⌝ }
@@ -101,7 +101,7 @@ fn put_source(out: &mut [u8], at: usize, source: OptionalKeySource) -> usize
 }
 
 // Stores a key identifier, or nothing, at a place and returns the place behind it. Asks for its room.
-pub fn put_key(out: &mut [u8], at: usize, key: OptionalKeyIdentifier) -> usize
+pub fn put_key(key: OptionalKeyIdentifier, out: &mut [u8], at: usize) -> usize
     requires { ⌜ at + keyLength (modeOfKey key) ≤ length (now out) ⌝ }
     ensures { λ r. ⌜ r ≡ at + keyLength (modeOfKey key) ⌝ }
     ensures { λ r. ⌜ now (out .exit) ≡ laid (now (out .entry)) at (keyBytes key) ⌝ }
@@ -110,6 +110,6 @@ pub fn put_key(out: &mut [u8], at: usize, key: OptionalKeyIdentifier) -> usize
         return at;
     };
     let source = present.key_source;
-    let next = put_source(out, at, source);
+    let next = put_source(source, out, at);
     put(present.key_index as u64, 1, out, next)
 }

@@ -122,14 +122,8 @@ impl SecurityHeaderRead {
         ensures { λ r. ⌜ r ≡ readOutcome self ⌝ }
     {
         match self {
-            SecurityHeaderRead::Read(_, n) => Outcome {
-                number: 0,
-                length: n,
-            },
-            SecurityHeaderRead::Ended => Outcome {
-                number: 1,
-                length: 0,
-            },
+            SecurityHeaderRead::Read(_, n) => Outcome::accepted(n),
+            SecurityHeaderRead::Ended => Outcome::refused(1),
         }
     }
 }
@@ -147,22 +141,10 @@ impl SecurityHeaderWritten {
         ensures { λ r. ⌜ r ≡ writtenOutcome self ⌝ }
     {
         match self {
-            SecurityHeaderWritten::Written(n) => Outcome {
-                number: 0,
-                length: n,
-            },
-            SecurityHeaderWritten::TooLarge => Outcome {
-                number: 8,
-                length: 0,
-            },
-            SecurityHeaderWritten::MissingCounter => Outcome {
-                number: 7,
-                length: 0,
-            },
-            SecurityHeaderWritten::Full => Outcome {
-                number: 1,
-                length: 0,
-            },
+            SecurityHeaderWritten::Written(n) => Outcome::accepted(n),
+            SecurityHeaderWritten::TooLarge => Outcome::refused(8),
+            SecurityHeaderWritten::MissingCounter => Outcome::refused(7),
+            SecurityHeaderWritten::Full => Outcome::refused(1),
         }
     }
 }
@@ -243,7 +225,7 @@ impl AuxiliarySecurityHeader {
         let behind_control = put(self.written_control() as u64, 1, out, at);
         let behind_counter = put(counter as u64, 4, out, behind_control);
         let key = self.key_identifier;
-        put_key(out, behind_counter, key)
+        put_key(key, out, behind_counter)
     }
 
     // The key mode comes from the key identifier, the counter from the caller: the record's own counter is not written.

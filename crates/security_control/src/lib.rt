@@ -60,14 +60,8 @@ impl SecurityControlRead {
         ensures { λ r. ⌜ r ≡ controlOutcome self ⌝ }
     {
         match self {
-            SecurityControlRead::Read(_) => Outcome {
-                number: 0,
-                length: 1,
-            },
-            SecurityControlRead::Ended => Outcome {
-                number: 1,
-                length: 0,
-            },
+            SecurityControlRead::Read(_) => Outcome::accepted(1),
+            SecurityControlRead::Ended => Outcome::refused(1),
         }
     }
 }

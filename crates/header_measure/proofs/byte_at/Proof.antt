@@ -3,8 +3,7 @@
 use mathlib.Core.Path.{sym}
 use borrow.Author.Needs.{needs}
 use denote.Ref.{now}
-use Rattle.octets.proofs.Little.{number-one}
-use Rattle.header_measure.proofs.Laws.{number-past}
+use Rattle.octets.proofs.Little.{number-one, number-past}
 use Rattle.header_measure.proofs.byte_at.Statement.{statement}
 use Rattle.header_measure.proofs.byte_at.Tie as tie
 

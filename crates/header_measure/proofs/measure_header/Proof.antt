@@ -1,13 +1,58 @@
--- `header_measure::measure_header` meets its contract: its tests are those that tell what reading answers, in their order.
+-- `header_measure::measure_header` meets its contract: its tests are those that tell what reading answers, in their order. Behind each test
+-- that does not hold, the tests that are left answer what reading answers.
 -- Assumes nothing.
-use mathlib.Core.Path.{_∙_}
+use Prim.Native.Nat.{ℕ}
+use mathlib.Core.Path.{_≡_, sym, ap, _∙_}
 use borrow.Author.Tests.{lt-ltb, le-ltb, eq-eqb, ne-eqb}
 use borrow.Author.Needs.{needs}
 use denote.Ref.{now}
+use lib.ListN.{drop}
+use Rattle.octets.specs.declared.Outcome.{Outcome}
+use Rattle.header.specs.Read.{readHeader, readOutcome}
+use Rattle.header_facts.specs.Order.{wholeEnd, readTests, answered}
 use Rattle.header_facts.proofs.Order.{read-answered}
-use Rattle.header_measure.proofs.Laws.{told, control-passed}
 use Rattle.header_measure.proofs.measure_header.Statement.{statement}
 use Rattle.header_measure.proofs.measure_header.Tie as tie
+
+-- what the tests on the frame control answer, the first k of them left out
+abbrev from : ℕ → tie.After-u16-at → Outcome
+from k c =
+    let s = now (c .before .before .before .args .s) in
+    let w = c .u16-at .result in
+    answered (drop k (readTests s w)) (wholeEnd s w)
+
+-- what reading answers
+abbrev read : tie.After-u16-at → Outcome
+read c = readOutcome (readHeader (now (c .before .before .before .args .s)))
+
+three-there : (c : tie.After-u16-at) → from 1 c ≡ read c
+three-there c =
+    let s = now (c .before .before .before .args .s) in
+    let here : from 1 c ≡ from 0 c = simp (le-ltb _ _ (c .before .if1 .left)) in
+    here ∙ ap (λ w. answered (readTests s w) (wholeEnd s w)) (c .u16-at .ensures) ∙ sym (read-answered s)
+
+version-known : (c : tie.Else2) → from 2 (c .before) ≡ read (c .before)
+version-known c =
+    let here : from 2 (c .before) ≡ from 1 (c .before) = simp (ne-eqb _ _ (c .if2 .left)) in
+    here ∙ three-there (c .before)
+
+type-known : (c : tie.Else3) → let call = c .before .before in from 3 call ≡ read call
+type-known c =
+    let call = c .before .before in
+    let here : from 3 call ≡ from 2 call = simp (ne-eqb _ _ (c .if3 .left)) in
+    here ∙ version-known (c .before)
+
+destination-known : (c : tie.Else4) → let call = c .before .before .before in from 4 call ≡ read call
+destination-known c =
+    let call = c .before .before .before in
+    let here : from 4 call ≡ from 3 call = simp (ne-eqb _ _ (c .if4 .left)) in
+    here ∙ type-known (c .before)
+
+source-known : (c : tie.Else5) → let call = c .before .before .before .before in from 5 call ≡ read call
+source-known c =
+    let call = c .before .before .before .before in
+    let here : from 5 call ≡ from 4 call = simp (ne-eqb _ _ (c .if5 .left)) in
+    here ∙ destination-known (c .before)
 
 below-three : tie.Need-returns
 below-three c =
@@ -15,70 +60,22 @@ below-three c =
     rw (read-answered s) (simp (c .refused .ensures, lt-ltb _ _ (c .before .if1 .taken)))
 
 version : tie.Need-returns-2
-version c =
-    let v = c .before in
-    let call = v .before in
-    let s = now (call .before .before .before .args .s) in
-    rw (← told s _ (call .u16-at .ensures))
-    (simp (c .refused2 .ensures, le-ltb _ _ (call .before .if1 .left), eq-eqb _ _ (v .if2 .taken)))
+version c = rw (← three-there (c .before .before)) (simp (c .refused2 .ensures, eq-eqb _ _ (c .before .if2 .taken)))
 
 kind : tie.Need-returns-3
-kind c =
-    let k = c .before in
-    let v = k .before in
-    let call = v .before in
-    let s = now (call .before .before .before .args .s) in
-    rw (← told s _ (call .u16-at .ensures))
-    (simp (c .refused3 .ensures, le-ltb _ _ (call .before .if1 .left), ne-eqb _ _ (v .if2 .left), eq-eqb _ _ (k .if3 .taken)))
+kind c = rw (← version-known (c .before .before)) (simp (c .refused3 .ensures, eq-eqb _ _ (c .before .if3 .taken)))
 
 destination : tie.Need-returns-4
-destination c =
-    let d = c .before in
-    let k = d .before in
-    let v = k .before in
-    let call = v .before in
-    let s = now (call .before .before .before .args .s) in
-    rw (← told s _ (call .u16-at .ensures))
-    (simp (
-      c .refused4 .ensures,
-      le-ltb _ _ (call .before .if1 .left),
-      ne-eqb _ _ (v .if2 .left),
-      ne-eqb _ _ (k .if3 .left),
-      eq-eqb _ _ (d .if4 .taken),
-    ))
+destination c = rw (← type-known (c .before .before)) (simp (c .refused4 .ensures, eq-eqb _ _ (c .before .if4 .taken)))
 
 source : tie.Need-returns-5
-source c =
-    let m = c .before in
-    let d = m .before in
-    let k = d .before in
-    let v = k .before in
-    let call = v .before in
-    let s = now (call .before .before .before .args .s) in
-    rw (← told s _ (call .u16-at .ensures))
-    (simp (
-      c .refused5 .ensures,
-      le-ltb _ _ (call .before .if1 .left),
-      ne-eqb _ _ (v .if2 .left),
-      ne-eqb _ _ (k .if3 .left),
-      ne-eqb _ _ (d .if4 .left),
-      eq-eqb _ _ (m .if5 .taken),
-    ))
+source c = rw (← destination-known (c .before .before)) (simp (c .refused5 .ensures, eq-eqb _ _ (c .before .if5 .taken)))
 
 fields : tie.Need-returns-6
-fields c =
-    let m = c .before in
-    let d = m .before in
-    let k = d .before in
-    let v = k .before in
-    let call = v .before in
-    let s = now (call .before .before .before .args .s) in
-    c .measure-fields .ensures
-    ∙ control-passed s (call .u16-at .result) (le-ltb _ _ (call .before .if1 .left)) (ne-eqb _ _ (v .if2 .left)) (ne-eqb _ _ (k .if3 .left)) (ne-eqb _ _ (d .if4 .left)) (ne-eqb _ _ (m .if5 .left))
-    ∙ told s (call .u16-at .result) (call .u16-at .ensures)
+fields c = c .measure-fields .ensures ∙ source-known (c .before)
 
 pub measure-header-spec : {M : Type 1} → statement M
 measure-header-spec =
     tie.close
-    (tie.spec (λ c κs. search needs) below-three (λ c κs. search needs) (λ c. search needs) (λ c κs. search needs) version (λ c κs. search needs) kind
-    (λ c κs. search needs) destination (λ c κs. search needs) source (λ c κs. search needs) fields)
+    (tie.spec (λ c κs. search needs) below-three (λ c κs. search needs) (λ c. search needs) (λ c κs. search needs) version
+    (λ c κs. search needs) kind (λ c κs. search needs) destination (λ c κs. search needs) source (λ c κs. search needs) fields)

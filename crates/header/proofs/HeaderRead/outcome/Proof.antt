@@ -7,6 +7,6 @@ use Rattle.header.proofs.HeaderRead.outcome.Tie as tie
 pub outcome-spec : {M : Type 1} → statement M
 outcome-spec =
     tie.close
-    (tie.spec (λ c. search needs) (λ c. search needs) (λ c κs. search needs)
-    (λ c. rw (c .before .self .given .1))
-    (λ c. rw (c .before .before .self2 .given .1, c .number .ensures)))
+    (tie.spec (λ c. search needs) (λ c κs. search needs) (λ c. search needs) (λ c κs. search needs) (λ c κs. search needs)
+    (λ c. rw (c .before .before .self .given .1) (c .accepted .ensures))
+    (λ c. rw (c .before .before .before .self2 .given .1) (rw (c .before .number .ensures) at (c .refused .ensures))))
