@@ -1,8 +1,8 @@
--- What an address answers: its PAN id, its mode, and the broadcast form of each mode (document 01, "each broadcast form
+-- What an address answers: its PAN id, its mode, and the broadcast form of each mode (document 01, "Each broadcast form
 -- of the source (all ones) belongs to its own kind").
-use Rattle.frame_control.specs.{declared.AddressMode.AddressMode}
+use Rattle.frame_control.specs.declared.{AddressMode.AddressMode}
 use Rattle.identifiers.specs.{declared.PanId.PanId, PanId.pan, ShortAddress.short, ExtendedAddress.extended}
-use Rattle.address.specs.{declared.Address.Address, declared.OptionalAddress.OptionalAddress}
+use Rattle.address.specs.declared.{Address.Address, OptionalAddress.OptionalAddress}
 use Rattle.address.specs.declared.Address.the-variants.{Short, Extended}
 use Rattle.address.specs.declared.OptionalAddress.the-variants.{Absent, Present}
 

@@ -1,13 +1,14 @@
 -- An address in a frame: document 01, "PAN id (2) and address (2 or 8)", the PAN id left out where it is shared (IEEE
 -- 802.15.4-2011, 5.2.1.3 to 5.2.1.6). Own says that the PAN id is in the frame.
 use Rattle.octets.specs.Words.{ℕ, _+_, _^_, _<_, Bool, true, false, cond, List, [], _++_}
-use Rattle.octets.specs.{Little.number, Little.split}
-use Rattle.frame_control.specs.{declared.AddressMode.AddressMode}
+use Rattle.octets.specs.Little.{number, split}
+use Rattle.frame_control.specs.declared.{AddressMode.AddressMode}
 use Rattle.identifiers.specs.{declared.PanId.PanId, PanId.pan, ShortAddress.short, ExtendedAddress.extended}
 use Rattle.address.specs.{declared.OptionalAddress.OptionalAddress, Address.modeOf}
 use Rattle.address.specs.declared.Address.the-variants.{Short, Extended}
 use Rattle.address.specs.declared.OptionalAddress.the-variants.{Absent, Present}
 
+-- how many bytes a PAN id, an address of a mode and an address take
 abbrev pub panLength : Bool → ℕ
 panLength true = 2
 panLength false = 0
@@ -28,9 +29,12 @@ panIn false shared s at = shared
 -- the address of a mode at a place
 unfoldable pub addressIn : Bool → PanId → AddressMode → List ℕ → ℕ → OptionalAddress
 addressIn own shared AddressMode.None s at = Absent
-addressIn own shared AddressMode.Short s at = Present (Short (panIn own shared s at) (short (number s (at + panLength own) 2)))
-addressIn own shared AddressMode.Extended s at = Present (Extended (panIn own shared s at) (extended (number s (at + panLength own) 8)))
+addressIn own shared AddressMode.Short s at =
+    Present (Short (panIn own shared s at) (short (number s (at + panLength own) 2)))
+addressIn own shared AddressMode.Extended s at =
+    Present (Extended (panIn own shared s at) (extended (number s (at + panLength own) 8)))
 
+-- the bytes of a PAN id, where it is in the frame
 abbrev pub panBytes : Bool → PanId → List ℕ
 panBytes true p = split 2 (p .0)
 panBytes false p = []

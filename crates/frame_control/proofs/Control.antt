@@ -14,7 +14,8 @@ use Rattle.frame_control.specs.Types.{typeBits}
 use Rattle.frame_control.specs.Versions.{versionBits}
 use Rattle.frame_control.specs.Modes.{modeBits}
 use Rattle.frame_control.specs.Control.{controlOf, controlIn, controlBits, quietControl}
-use Rattle.frame_control.proofs.Known.{type-back, type-again, type-small, version-back, version-again, version-small, mode-back, mode-again, mode-small}
+use Rattle.frame_control.proofs.Known.{type-back, type-again, type-small, version-back, version-again, version-small, mode-back}
+use Rattle.frame_control.proofs.Known.{mode-again, mode-small}
 
 -- each field fits its bits
 abbrev Small : FrameControl → Type 0
@@ -87,7 +88,22 @@ module _ (c : FrameControl) where
   pub control-back : controlIn (controlBits c) ≡ Read c
   unfolding controlIn
   control-back =
-      simp (version-at, version-back, type-at, type-back, destination-at, source-at, mode-back, security-at, pending-at, request-at, compress-at, suppress-at, elements-at, bit-back)
+      simp (
+        version-at,
+        version-back,
+        type-at,
+        type-back,
+        destination-at,
+        source-at,
+        mode-back,
+        security-at,
+        pending-at,
+        request-at,
+        compress-at,
+        suppress-at,
+        elements-at,
+        bit-back,
+      )
 
 -- the fields of a number, of the low eight bits and of all, sum up to the number without its bit 7
 sum : (w t s p a k x q i d v m r4 r5 r6 r7 r8 r9 r10 r12 r14 : ℕ) →
@@ -101,9 +117,11 @@ joined : (w : ℕ) → w < 256 ^ 2 →
     + 256 * (bits w 8 1 + 2 * bits w 9 1 + 4 * bits w 10 2 + 16 * bits w 12 2 + 64 * bits w 14 2)
     ≡ clear 7 1 w
 joined w h =
-    sum w (w % 8) (bits w 3 1) (bits w 4 1) (bits w 5 1) (bits w 6 1) (bits w 7 1) (bits w 8 1) (bits w 9 1) (bits w 10 2) (bits w 12 2) (bits w 14 2)
+    sum w (w % 8) (bits w 3 1) (bits w 4 1) (bits w 5 1) (bits w 6 1) (bits w 7 1) (bits w 8 1) (bits w 9 1)
+    (bits w 10 2) (bits w 12 2) (bits w 14 2)
     (w % 16) (w % 32) (w % 64) (w % 128) (w % 256) (w % 512) (w % 1024) (w % 4096) (w % 16384)
-    (bits-join w 3 1) (bits-join w 4 1) (bits-join w 5 1) (bits-join w 6 1) (bits-join w 7 1) (bits-join w 8 1) (bits-join w 9 1) (bits-join w 10 2)
+    (bits-join w 3 1) (bits-join w 4 1) (bits-join w 5 1) (bits-join w 6 1) (bits-join w 7 1) (bits-join w 8 1) (bits-join w 9 1)
+    (bits-join w 10 2)
     (bits-join w 12 2) (sym (mod-eq-of-lt h) ∙ bits-join w 14 2)
 
 -- what a number that was read says of its listed values
@@ -128,7 +146,8 @@ taken w c e =
     cases (mode-again (bits w 10 2)) (λ d. absurd (never _ c (simp (v .1, t .1, d) at e))) (λ d.
     cases (mode-again (bits w 14 2)) (λ s. absurd (never _ c (simp (v .1, t .1, d .1, s) at e))) (λ s.
     let same : controlOf w (t .0) (d .0) (v .0) (s .0) ≡ c = same-read _ c (simp (v .1, t .1, d .1, s .1) at e) in
-    let found : Taken w (controlOf w (t .0) (d .0) (v .0) (s .0)) = record { fields = refl; version = v .2; type = t .2; destination = d .2; source = s .2 } in
+    let found : Taken w (controlOf w (t .0) (d .0) (v .0) (s .0)) =
+    record { fields = refl; version = v .2; type = t .2; destination = d .2; source = s .2 } in
     rw same at found))))
 
 -- a number that was read, put together again, has its bit 7 cleared and no other
@@ -151,11 +170,13 @@ control-again w c h e =
     (joined w h)
 
 -- without the two flags the number loses their bits
-flags : (c : FrameControl) → controlBits (quietControl c) + 256 * (bitOf (c .«seq_no_suppress») + 2 * bitOf (c .«ie_present»)) ≡ controlBits c
+flags : (c : FrameControl) →
+    controlBits (quietControl c) + 256 * (bitOf (c .«seq_no_suppress») + 2 * bitOf (c .«ie_present»)) ≡ controlBits c
 unfolding controlBits
 flags c = omega arith
 
-three-bits : (u v x y q i p r7 r8 r9 r10 : ℕ) → u + 256 * (q + 2 * i) ≡ v → v ≡ y - x * 128 → r10 ≡ p * 128 + r7 → r8 ≡ x * 128 + r7 → r9 ≡ q * 256 + r8 → r10 ≡ i * 512 + r9 →
+three-bits : (u v x y q i p r7 r8 r9 r10 : ℕ) → u + 256 * (q + 2 * i) ≡ v → v ≡ y - x * 128 → r10 ≡ p * 128 + r7 → r8 ≡ x * 128 + r7 →
+    r9 ≡ q * 256 + r8 → r10 ≡ i * 512 + r9 →
     u ≡ y - p * 128
 three-bits u v x y q i p r7 r8 r9 r10 e f g7 g8 g9 g10 = omega arith
 
@@ -163,7 +184,10 @@ three-bits u v x y q i p r7 r8 r9 r10 e f g7 g8 g9 g10 = omega arith
 pub control-quiet : (w : ℕ) (c : FrameControl) → w < 256 ^ 2 → controlIn w ≡ Read c → controlBits (quietControl c) ≡ clear 7 3 w
 control-quiet w c h e =
     let k = taken w c e in
-    let suppress : bitOf (c .«seq_no_suppress») ≡ bits w 8 1 = ap (λ (c : FrameControl). bitOf (c .«seq_no_suppress»)) (k .fields) ∙ bit-again (bits w 8 1) (omega arith) in
-    let elements : bitOf (c .«ie_present») ≡ bits w 9 1 = ap (λ (c : FrameControl). bitOf (c .«ie_present»)) (k .fields) ∙ bit-again (bits w 9 1) (omega arith) in
-    three-bits (controlBits (quietControl c)) (controlBits c) (bits w 7 1) w (bits w 8 1) (bits w 9 1) (bits w 7 3) (w % 128) (w % 256) (w % 512) (w % 1024)
+    let suppress : bitOf (c .«seq_no_suppress») ≡ bits w 8 1 =
+    ap (λ (c : FrameControl). bitOf (c .«seq_no_suppress»)) (k .fields) ∙ bit-again (bits w 8 1) (omega arith) in
+    let elements : bitOf (c .«ie_present») ≡ bits w 9 1 =
+    ap (λ (c : FrameControl). bitOf (c .«ie_present»)) (k .fields) ∙ bit-again (bits w 9 1) (omega arith) in
+    three-bits (controlBits (quietControl c)) (controlBits c) (bits w 7 1) w (bits w 8 1) (bits w 9 1) (bits w 7 3)
+    (w % 128) (w % 256) (w % 512) (w % 1024)
     (rw (suppress, elements) at (flags c)) (control-again w c h e) (bits-join w 7 3) (bits-join w 7 1) (bits-join w 8 1) (bits-join w 9 1)

@@ -46,7 +46,8 @@ pub type-again : (n : ℕ) → (typeOf n ≡ TypeRead.Refused) ⊎ ((t : FrameTy
 unfolding typeOf
 type-again n = find-again typeBits types TypeRead.Refused TypeRead.Read n (refl, (refl, (refl, (refl, (refl, (refl, (refl, tt)))))))
 
-pub version-again : (n : ℕ) → (versionOf n ≡ VersionRead.Refused) ⊎ ((v : FrameVersion) × (versionOf n ≡ VersionRead.Read v) × (versionBits v ≡ n))
+pub version-again : (n : ℕ) →
+    (versionOf n ≡ VersionRead.Refused) ⊎ ((v : FrameVersion) × (versionOf n ≡ VersionRead.Read v) × (versionBits v ≡ n))
 unfolding versionOf
 version-again n = find-again versionBits versions VersionRead.Refused VersionRead.Read n (refl, (refl, (refl, tt)))
 

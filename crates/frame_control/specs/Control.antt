@@ -3,12 +3,12 @@
 -- destination mode 10-11, version 12-13, source mode 14-15.
 use Rattle.octets.specs.Words.{ℕ, _+_, _*_, _%_, false}
 use Rattle.octets.specs.{declared.Outcome.Outcome, Bits.bits, Bits.bit, Bits.bitOf, Outcome.accepted, Outcome.refused}
-use Rattle.frame_control.specs.{declared.FrameType.FrameType, declared.FrameVersion.FrameVersion}
-use Rattle.frame_control.specs.{declared.AddressMode.AddressMode, declared.FrameControl.FrameControl}
-use Rattle.frame_control.specs.{declared.FrameControlRefusal.FrameControlRefusal}
-use Rattle.frame_control.specs.{declared.FrameControlRead.FrameControlRead, Types.typeOf, Types.typeBits}
-use Rattle.frame_control.specs.{Types.type?, Versions.versionOf, Versions.versionBits, Versions.version?}
-use Rattle.frame_control.specs.{Modes.modeOf, Modes.modeBits, Modes.mode?}
+use Rattle.frame_control.specs.declared.{FrameType.FrameType, FrameVersion.FrameVersion, AddressMode.AddressMode}
+use Rattle.frame_control.specs.declared.{FrameControl.FrameControl, FrameControlRefusal.FrameControlRefusal}
+use Rattle.frame_control.specs.declared.{FrameControlRead.FrameControlRead}
+use Rattle.frame_control.specs.Types.{typeOf, typeBits, type?}
+use Rattle.frame_control.specs.Versions.{versionOf, versionBits, version?}
+use Rattle.frame_control.specs.Modes.{modeOf, modeBits, mode?}
 use Rattle.frame_control.specs.declared.FrameControlRead.the-variants.{Read, Refused}
 
 -- the fields of the number w, whose listed values are given
@@ -39,8 +39,10 @@ controlIn w =
 -- the fields put together, bit 7 clear: the low byte, and 256 times the high one
 unfoldable pub controlBits : FrameControl → ℕ
 controlBits c =
-    (typeBits (c .«frame_type») + 8 * bitOf (c .security) + 16 * bitOf (c .«frame_pending») + 32 * bitOf (c .«ack_request») + 64 * bitOf (c .«pan_id_compress»))
-    + 256 * (bitOf (c .«seq_no_suppress») + 2 * bitOf (c .«ie_present») + 4 * modeBits (c .destination) + 16 * versionBits (c .version) + 64 * modeBits (c .source))
+    (typeBits (c .«frame_type») + 8 * bitOf (c .security) + 16 * bitOf (c .«frame_pending»)
+    + 32 * bitOf (c .«ack_request») + 64 * bitOf (c .«pan_id_compress»))
+    + 256 * (bitOf (c .«seq_no_suppress») + 2 * bitOf (c .«ie_present») + 4 * modeBits (c .destination)
+    + 16 * versionBits (c .version) + 64 * modeBits (c .source))
 
 -- the fields with the flags of bits 8 and 9 false, as a header's writer puts them together
 abbrev pub quietControl : FrameControl → FrameControl

@@ -3,7 +3,8 @@
 use Rattle.octets.specs.Words.{ℕ, List, [], _∷_}
 use Rattle.octets.specs.{declared.Outcome.Outcome, Bits.find, Outcome.accepted, Outcome.refused}
 use Rattle.frame_control.specs.{declared.FrameType.FrameType, declared.FrameTypeRead.FrameTypeRead}
-use Rattle.frame_control.specs.declared.FrameType.the-variants.{Beacon, Data, Acknowledgement, MacCommand, Multipurpose, FragOrFragAck, Extended}
+use Rattle.frame_control.specs.declared.FrameType.the-variants.{Beacon, Data, Acknowledgement, MacCommand}
+use Rattle.frame_control.specs.declared.FrameType.the-variants.{Multipurpose, FragOrFragAck, Extended}
 use Rattle.frame_control.specs.declared.FrameTypeRead.the-variants.{Read, Refused}
 
 abbrev pub types : List (ℕ × FrameType)

@@ -23,7 +23,8 @@ use Rattle.header.specs.declared.HeaderRead.the-variants.{Read, Refused}
 use Rattle.header.specs.declared.SecurityPart.{SecurityPart}
 use Rattle.header.specs.declared.SecurityPart.the-variants as Part
 use Rattle.header.specs.Record.{headerOf}
-use Rattle.header.specs.Read.{unshared, destinationEnd, sourceEnd, destinationIn, sourceIn, securityPart, readRest, readFields, readHeader}
+use Rattle.header.specs.Read.{unshared, destinationEnd, sourceEnd, destinationIn, sourceIn, securityPart, readRest, readFields}
+use Rattle.header.specs.Read.{readHeader}
 
 -- what the stages found in s: a frame control, addresses that are there, a security part and the place behind it
 pub record Stages (s : List ℕ) (c : FrameControl) (k : OptionalSecurityHeader) (end : ℕ) : Type 0 where
@@ -37,7 +38,8 @@ pub record Stages (s : List ℕ) (c : FrameControl) (k : OptionalSecurityHeader)
 abbrev pub headerIn : List ℕ → FrameControl → OptionalSecurityHeader → Header
 headerIn s c k = headerOf c (number s 2 1) (destinationIn c s) (sourceIn c s) k
 
-pub together : (s : List ℕ) (c : FrameControl) (k : OptionalSecurityHeader) (end : ℕ) → Stages s c k end → readHeader s ≡ Read (headerIn s c k) end
+pub together : (s : List ℕ) (c : FrameControl) (k : OptionalSecurityHeader) (end : ℕ) → Stages s c k end →
+    readHeader s ≡ Read (headerIn s c k) end
 unfolding readHeader readFields readRest
 together s c k end q =
     let destination : ltb (length s) (destinationEnd c) ≡ false = le-ltb (length s) (destinationEnd c) (omega (arith, q .addresses)) in
@@ -49,7 +51,8 @@ never r h n e = let z : _≡_ {A = ℕ} 0 1 = cc in omega arith
 same : (g h : Header) (m n : ℕ) → Read g m ≡ Read h n → (g ≡ h) × (m ≡ n)
 same g h m n e = (cc, cc)
 
-control-found : (r : FrameControlRead) → ((c : FrameControl) × (r ≡ ControlRead.Read c)) ⊎ ((refusal : FrameControlRefusal) × (r ≡ ControlRead.Refused refusal))
+control-found : (r : FrameControlRead) →
+    ((c : FrameControl) × (r ≡ ControlRead.Read c)) ⊎ ((refusal : FrameControlRefusal) × (r ≡ ControlRead.Refused refusal))
 control-found (ControlRead.Read c) = inl (c, refl)
 control-found (ControlRead.Refused refusal) = inr (refusal, refl)
 
@@ -66,8 +69,10 @@ apart s h n e =
     cases (control-found (controlIn (number s 0 2))) (λ c.
     let control = c .1 in
     cases (holds? (ltb (length s) (destinationEnd (c .0)))) (λ t. absurd (never _ h n (simp (three, control, t) at e))) (λ destination.
-    cases (holds? (unshared (c .0 .«pan_id_compress») (c .0 .destination))) (λ t. absurd (never _ h n (simp (three, control, destination, t) at e))) (λ shared.
-    cases (holds? (ltb (length s) (sourceEnd (c .0)))) (λ t. absurd (never _ h n (simp (three, control, destination, shared, t) at e))) (λ source.
+    cases (holds? (unshared (c .0 .«pan_id_compress») (c .0 .destination)))
+    (λ t. absurd (never _ h n (simp (three, control, destination, t) at e))) (λ shared.
+    cases (holds? (ltb (length s) (sourceEnd (c .0))))
+    (λ t. absurd (never _ h n (simp (three, control, destination, shared, t) at e))) (λ source.
     cases (part-found (securityPart s (sourceEnd (c .0)) (c .0 .security))) (λ part.
     let q = same _ h _ n (simp (three, control, destination, shared, source, part .2) at e) in (
       c .0,

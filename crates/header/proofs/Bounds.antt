@@ -55,7 +55,8 @@ pub record Secured (s : List ℕ) (at : ℕ) (k : OptionalSecurityHeader) (end :
   pub ends : end ≡ at + lengthIn s at
   pub whole : at + lengthIn s at ≤ length s
 
-behind : (r : SecurityHeaderRead) (s : List ℕ) (at : ℕ) (k : OptionalSecurityHeader) (end : ℕ) → readSecurity s at ≡ r → behindPlace r at ≡ Part.Read k end → Secured s at k end
+behind : (r : SecurityHeaderRead) (s : List ℕ) (at : ℕ) (k : OptionalSecurityHeader) (end : ℕ) → readSecurity s at ≡ r →
+    behindPlace r at ≡ Part.Read k end → Secured s at k end
 behind Security.Ended s at k end e f = let z : _≡_ {A = ℕ} 0 1 = cc in absurd (omega arith)
 behind (Security.Read x m) s at k end e f =
     let q = accepted-whole s at x m e in

@@ -2,18 +2,20 @@
 -- security part. The frame control gives 2, 3 and 4; then come the sequence byte, always, the addresses, and the
 -- security header.
 use Rattle.octets.specs.Words.{ℕ, _+_, Bool, true, false, cond, not, List, [], _∷_, ltb, length}
-use Rattle.octets.specs.{declared.Outcome.Outcome, Little.number, Order.first, Outcome.accepted, Outcome.refused}
-use Rattle.frame_control.specs.{declared.AddressMode.AddressMode, declared.FrameControl.FrameControl}
-use Rattle.frame_control.specs.{declared.FrameControlRefusal.FrameControlRefusal, Control.controlIn, Control.control?}
-use Rattle.identifiers.specs.{PanId.pan}
-use Rattle.address.specs.{declared.OptionalAddress.OptionalAddress, Address.sharedPan, Layout.modeLength}
-use Rattle.address.specs.{Layout.addressIn}
-use Rattle.security.specs.{declared.OptionalSecurityHeader.OptionalSecurityHeader}
-use Rattle.security.specs.{declared.SecurityHeaderRead.SecurityHeaderRead, Answer.readSecurity}
+use Rattle.octets.specs.{declared.Outcome.Outcome, Outcome.accepted, Outcome.refused, Order.first, Little.number}
+use Rattle.frame_control.specs.declared.{AddressMode.AddressMode, FrameControl.FrameControl}
+use Rattle.frame_control.specs.declared.{FrameControlRefusal.FrameControlRefusal}
+use Rattle.frame_control.specs.Control.{controlIn, control?}
+use Rattle.identifiers.specs.PanId.{pan}
+use Rattle.address.specs.declared.{OptionalAddress.OptionalAddress}
+use Rattle.address.specs.{Address.sharedPan, Layout.modeLength, Layout.addressIn}
+use Rattle.security.specs.declared.{OptionalSecurityHeader.OptionalSecurityHeader, SecurityHeaderRead.SecurityHeaderRead}
 use Rattle.security.specs.declared.OptionalSecurityHeader.the-variants.{Absent, Present}
-use Rattle.header.specs.{declared.HeaderRefusal.HeaderRefusal, declared.HeaderRead.HeaderRead}
-use Rattle.header.specs.{declared.SecurityPart.SecurityPart, Record.headerOf}
-use Rattle.header.specs.declared.HeaderRefusal.the-variants.{Ended, Version, FrameType, AddressMode as Modes, Compression}
+use Rattle.security.specs.Answer.{readSecurity}
+use Rattle.header.specs.declared.{HeaderRefusal.HeaderRefusal, HeaderRead.HeaderRead, SecurityPart.SecurityPart}
+use Rattle.header.specs.Record.{headerOf}
+use Rattle.header.specs.declared.HeaderRefusal.the-variants.{Ended, Version, FrameType, Compression}
+use Rattle.header.specs.declared.HeaderRefusal.the-variants.{AddressMode as Modes}
 use Rattle.header.specs.declared.HeaderRead.the-variants.{Read, Refused}
 
 -- compression is set, and there is no destination whose PAN id a source could share
@@ -65,11 +67,13 @@ readFields s c =
     [])
     (readRest s c)
 
+-- the frame control's refusals among the header's
 abbrev pub refusalOf : FrameControlRefusal → HeaderRefusal
 refusalOf FrameControlRefusal.Version = Version
 refusalOf FrameControlRefusal.FrameType = FrameType
 refusalOf FrameControlRefusal.AddressMode = Modes
 
+-- the header at the beginning of s
 unfoldable pub readHeader : List ℕ → HeaderRead
 readHeader s =
     first ((ltb (length s) 3, Refused Ended) ∷ [])

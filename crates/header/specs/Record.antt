@@ -1,10 +1,10 @@
 -- The header record: how it is made, whether it is secured, and its two lengths (document 01, "Header layout").
 use Rattle.octets.specs.Words.{ℕ, _+_, Bool, true, not}
-use Rattle.frame_control.specs.{declared.FrameControl.FrameControl}
+use Rattle.frame_control.specs.declared.{FrameControl.FrameControl}
 use Rattle.address.specs.{declared.OptionalAddress.OptionalAddress, Layout.addressLength}
-use Rattle.security.specs.{declared.OptionalSecurityHeader.OptionalSecurityHeader, Optional.isPresent}
-use Rattle.security.specs.{Optional.optionalLength}
-use Rattle.header.specs.{declared.Header.Header}
+use Rattle.security.specs.declared.{OptionalSecurityHeader.OptionalSecurityHeader}
+use Rattle.security.specs.Optional.{isPresent, optionalLength}
+use Rattle.header.specs.declared.{Header.Header}
 
 -- the record of a frame control, a sequence number, two addresses and a security header
 abbrev pub headerOf : FrameControl → ℕ → OptionalAddress → OptionalAddress → OptionalSecurityHeader → Header

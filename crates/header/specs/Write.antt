@@ -1,13 +1,13 @@
 -- Writing a header, document 01: 8; 1 below three bytes of room; 6; 1 addresses; 7; 1 security part. The writer clears
 -- frame-control bits 7, 8 and 9, takes the key mode from the key identifier and the counter from the caller.
 use Rattle.octets.specs.Words.{ℕ, Bool, true, false, cond, not, List, [], _∷_, _++_, ltb}
-use Rattle.octets.specs.{declared.Outcome.Outcome, Little.split, Order.first, Outcome.accepted, Outcome.refused}
+use Rattle.octets.specs.{declared.Outcome.Outcome, Outcome.accepted, Outcome.refused, Order.first, Little.split}
 use Rattle.frame_control.specs.{declared.FrameControl.FrameControl, Control.controlBits}
 use Rattle.address.specs.{declared.OptionalAddress.OptionalAddress, Address.modeOf, Layout.addressBytes}
-use Rattle.security.specs.{declared.OptionalCounter.OptionalCounter, Optional.levelTooLarge, Optional.optionalBytes}
-use Rattle.security.specs.{Optional.missing}
-use Rattle.header.specs.{declared.Header.Header, declared.HeaderWritten.HeaderWritten, Record.secured}
-use Rattle.header.specs.{Record.sourceOwn, Record.addressesEnd, Record.headerLength}
+use Rattle.security.specs.declared.{OptionalCounter.OptionalCounter}
+use Rattle.security.specs.Optional.{levelTooLarge, optionalBytes, missing}
+use Rattle.header.specs.declared.{Header.Header, HeaderWritten.HeaderWritten}
+use Rattle.header.specs.Record.{secured, sourceOwn, addressesEnd, headerLength}
 use Rattle.header.specs.declared.HeaderWritten.the-variants.{Written, TooLarge, Full, Compression, MissingCounter}
 
 -- refusal 6: compression set, either address missing
@@ -34,6 +34,7 @@ writeTests h counter room =
     (ltb room (headerLength h), Full) ∷
     []
 
+-- what writing into room bytes answers
 unfoldable pub writeHeader : Header → OptionalCounter → ℕ → HeaderWritten
 writeHeader h counter room = first (writeTests h counter room) (Written (headerLength h))
 

@@ -3,8 +3,10 @@ ghost use Rattle.octets.specs.Words.{_+_, _≤_, _≡_, length};
 ghost use Rattle.octets.specs.Buffer.{laid, after};
 ghost use Rattle.security.specs.Optional.{counterOf};
 ghost use Rattle.header.specs.Record.{secured, addressesEnd, headerLength, octetSize};
-ghost use Rattle.header.specs.Read.{unshared, destinationEnd, sourceEnd, securityPart, refusalOf, readRest, readFields, readHeader, readNumber, readOutcome};
-ghost use Rattle.header.specs.Write.{bothPresent, lacksAddress, lacksCounter, writeHeader, writtenOutcome, writtenControl, fixedBytes, addressesBytes, headerBytes};
+ghost use Rattle.header.specs.Read.{unshared, destinationEnd, sourceEnd, securityPart, refusalOf};
+ghost use Rattle.header.specs.Read.{readRest, readFields, readHeader, readNumber, readOutcome};
+ghost use Rattle.header.specs.Write.{bothPresent, lacksAddress, lacksCounter, writeHeader, writtenOutcome};
+ghost use Rattle.header.specs.Write.{writtenControl, fixedBytes, addressesBytes, headerBytes};
 use address::OptionalAddress;
 use address::address_at;
 use address::mode_octets;
@@ -66,6 +68,7 @@ impl HeaderRead {
 }
 
 impl HeaderRefusal {
+    // Its number in document 01.
     pub fn number(self) -> u8
         ensures { λ r. ⌜ r ≡ readNumber self ⌝ }
     {
@@ -109,6 +112,7 @@ pub enum SecurityPart {
     Read(OptionalSecurityHeader, usize),
 }
 
+// The security part at a place, by the security bit. Asks that the place is within the slice.
 fn security_part(s: &[u8], at: usize, on: bool) -> SecurityPart
     requires { ⌜ at ≤ length (now s) ⌝ }
     ensures { λ r. ⌜ r ≡ securityPart (now (s .entry)) at on ⌝ }
@@ -239,6 +243,7 @@ impl Header {
         }
     }
 
+    // It has a security part.
     pub fn has_security(self) -> bool
         ensures { λ r. ⌜ r ≡ secured self ⌝ }
     {
@@ -384,7 +389,8 @@ impl Header {
     // secured.
     pub fn write(self, out: &mut [u8], counter: OptionalCounter) -> HeaderWritten
         ensures { λ r. ⌜ r ≡ writeHeader self counter (length (now (out .entry))) ⌝ }
-        ensures { λ r. ⌜ now (out .exit) ≡ after (writtenOutcome r) (now (out .entry)) 0 (headerBytes self (counterOf counter)) ⌝ }
+        ensures { λ r. ⌜ now (out .exit) ≡
+            after (writtenOutcome r) (now (out .entry)) 0 (headerBytes self (counterOf counter)) ⌝ }
     {
         let answer = self.write_answer(counter, out.len());
         if let HeaderWritten::Written(_) = answer {

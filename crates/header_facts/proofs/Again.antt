@@ -19,11 +19,11 @@ use Rattle.frame_control.proofs.Control.{control-quiet}
 use Rattle.identifiers.specs.PanId.{pan}
 use Rattle.address.specs.Address.{modeOf, sharedPan}
 use Rattle.address.specs.Layout.{modeLength}
-use Rattle.address.proofs.Laws.{address-again, address-mode}
+use Rattle.address.proofs.Addresses.{address-again, address-mode}
 use Rattle.security.specs.declared.OptionalSecurityHeader.{OptionalSecurityHeader}
 use Rattle.security.specs.Optional.{isPresent, optionalLength, optionalBytes, counterOf, counterRead}
 use Rattle.security.specs.Security.{lengthIn}
-use Rattle.security.proofs.Laws.{security-length}
+use Rattle.security.proofs.Security.{security-length}
 use Rattle.security.proofs.RoundTrip.{round-trip}
 use Rattle.header.specs.declared.Header.{Header}
 use Rattle.header.specs.Record.{addressesEnd, headerLength}
@@ -47,7 +47,14 @@ word-bytes a b h k =
     let three : (a / 128 + 2 * b) % 8 ≡ a / 128 + 2 * (b % 4) = omega arith in
     let one : a / 128 % 2 ≡ a / 128 = omega arith in
     let two : clear 0 2 b ≡ b - b % 4 = rw (div-one, mul-one) in
-    rw (high, three, one, two, low-byte a b (a / 128) (b % 4) h (omega arith) (omega arith), high-byte a b (a / 128) (b % 4) h k (omega arith) (omega arith))
+    rw (
+      high,
+      three,
+      one,
+      two,
+      low-byte a b (a / 128) (b % 4) h (omega arith) (omega arith),
+      high-byte a b (a / 128) (b % 4) h k (omega arith) (omega arith),
+    )
 
 one-byte : (x : ℕ) → x < 256 → split 1 x ≡ x ∷ []
 unfolding split
@@ -66,7 +73,8 @@ spliced-absent (x ∷ y ∷ z ∷ rest) a b h =
     rw (e, f, append-nil (take a rest ++ take b (drop a rest)), take-add a b rest)
 
 spliced-present : (s : List ℕ) (a b m : ℕ) → 3 + a + b + m ≤ length s →
-    (clear 7 1 (getD s 0 0) ∷ clear 0 2 (getD s 1 0) ∷ getD s 2 0 ∷ []) ++ ((take a (drop 3 s) ++ take b (drop (3 + a) s)) ++ clearAt 0 5 3 (take m (drop (3 + a + b) s)))
+    (clear 7 1 (getD s 0 0) ∷ clear 0 2 (getD s 1 0) ∷ getD s 2 0 ∷ [])
+    ++ ((take a (drop 3 s) ++ take b (drop (3 + a) s)) ++ clearAt 0 5 3 (take m (drop (3 + a + b) s)))
     ≡ clearAt (3 + a + b) 5 3 (clearAt 1 0 2 (clearAt 0 7 1 (take (3 + a + b + m) s)))
 spliced-present [] a b m h = absurd (omega arith)
 spliced-present (x ∷ []) a b m h = absurd (omega arith)
@@ -157,12 +165,15 @@ module _ (s : List ℕ) (c : FrameControl) (k : OptionalSecurityHeader) (n : ℕ
       (λ none.
       (λ i. fixed-written i ++ (addresses-written i ++ optionalBytes (none .1 i) (counterOf (counterRead (none .1 i)))))
       ∙ spliced-absent s to from (q .addresses)
-      ∙ sym (λ i. clearControl (none .1 i) (addressesEnd header) (clearAt 1 0 2 (clearAt 0 7 1 (take (addresses-end i + optionalLength (none .1 i)) s)))))
+      ∙ sym (λ i. clearControl (none .1 i) (addressesEnd header)
+      (clearAt 1 0 2 (clearAt 0 7 1 (take (addresses-end i + optionalLength (none .1 i)) s)))))
       (λ found.
       let x = found .1 in
       let trip = round-trip s (sourceEnd c) (x .header) (lengthIn s (sourceEnd c)) b (x .read) in
-      let long : optionalLength k ≡ lengthIn s (sourceEnd c) = ap optionalLength (x .is) ∙ sym (security-length (x .header) (x .header .«frame_counter»)) ∙ trip .long in
+      let long : optionalLength k ≡ lengthIn s (sourceEnd c) =
+      ap optionalLength (x .is) ∙ sym (security-length (x .header) (x .header .«frame_counter»)) ∙ trip .long in
       (λ i. fixed-written i ++ (addresses-written i ++ optionalBytes (x .is i) (counterOf (counterRead (x .is i)))))
-      ∙ ap (λ (l : List ℕ). (clear 7 1 (getD s 0 0) ∷ clear 0 2 (getD s 1 0) ∷ getD s 2 0 ∷ []) ++ ((take to (drop 3 s) ++ take from (drop (3 + to) s)) ++ l)) (trip .written)
+      ∙ ap (λ (l : List ℕ). (clear 7 1 (getD s 0 0) ∷ clear 0 2 (getD s 1 0) ∷ getD s 2 0 ∷ [])
+      ++ ((take to (drop 3 s) ++ take from (drop (3 + to) s)) ++ l)) (trip .written)
       ∙ spliced-present s to from (lengthIn s (sourceEnd c)) (x .whole)
       ∙ sym (λ i. clearControl (x .is i) (addresses-end i) (clearAt 1 0 2 (clearAt 0 7 1 (take (addresses-end i + long i) s)))))

@@ -6,11 +6,9 @@ use mathlib.Core.Bool.{Bool, true, false, not, cond}
 use mathlib.Core.List.{List, [], _++_, append-assoc}
 use mathlib.Core.Path.{_≡_, refl, sym, ap, _∙_}
 use borrow.Author.Tests.{ltb-false}
-use lib.Dec.{eqb}
 use lib.ListN.{length, length-append}
 use Rattle.octets.specs.Little.{split, number}
 use Rattle.octets.proofs.Little.{split-length, number-back}
-use Rattle.octets.proofs.Order.{none-holds}
 use Rattle.frame_control.specs.declared.FrameControlRead.the-variants as ControlRead
 use Rattle.frame_control.specs.Control.{controlIn, controlBits}
 use Rattle.frame_control.proofs.Control.{control-small, control-back}
@@ -21,22 +19,21 @@ use Rattle.address.specs.declared.OptionalAddress.{OptionalAddress}
 use Rattle.address.specs.declared.OptionalAddress.the-variants as Address
 use Rattle.address.specs.Address.{modeOf, sharedPan}
 use Rattle.address.specs.Layout.{addressLength, addressIn, addressBytes, sharing}
-use Rattle.address.proofs.Laws.{address-length, address-back}
+use Rattle.address.proofs.Addresses.{address-length, address-back}
 use Rattle.security.specs.declared.OptionalCounter.{OptionalCounter}
 use Rattle.security.specs.declared.OptionalSecurityHeader.{OptionalSecurityHeader}
 use Rattle.security.specs.declared.OptionalSecurityHeader.the-variants.{Absent, Present}
 use Rattle.security.specs.Optional.{isPresent, levelTooLarge, optionalLength, optionalBytes, counterOf}
 use Rattle.security.specs.Security.{levelOf}
-use Rattle.security.proofs.Laws.{security-back}
+use Rattle.security.proofs.Security.{security-back}
 use Rattle.header.specs.declared.Header.{Header}
 use Rattle.header.specs.declared.HeaderRead.the-variants.{Read}
-use Rattle.header.specs.declared.HeaderWritten.{HeaderWritten}
 use Rattle.header.specs.declared.HeaderWritten.the-variants.{Written}
 use Rattle.header.specs.declared.SecurityPart.the-variants as Part
 use Rattle.header.specs.Record.{headerOf, secured, sourceOwn, addressesEnd, headerLength}
 use Rattle.header.specs.Read.{unshared, sourceEnd, destinationIn, sourceIn, behindPlace, securityPart, readHeader}
-use Rattle.header.specs.Write.{bothPresent, writeTests, writeHeader, writtenOutcome, writtenControl, fixedBytes, headerBytes}
-use Rattle.header.proofs.Laws.{fixed-length, header-length}
+use Rattle.header.specs.Write.{bothPresent, writeHeader, writtenControl, fixedBytes, headerBytes}
+use Rattle.header.proofs.Writing.{fixed-length, header-length, written-passes}
 use Rattle.header.proofs.Apart.{Stages, together}
 use Rattle.header_facts.specs.RoundTrip.{toldPart, toldHeader, Small, SmallPart}
 
@@ -47,16 +44,14 @@ own-back shared (Address.Present (Short p a)) = refl
 own-back shared (Address.Present (Extended p a)) = refl
 
 -- a security part behind other bytes
-part-back : (k : OptionalSecurityHeader) (counter : ℕ) (before after : List ℕ) (at : ℕ) → length before ≡ at → levelTooLarge k ≡ false → SmallPart k → counter < 256 ^ 4 →
+part-back : (k : OptionalSecurityHeader) (counter : ℕ) (before after : List ℕ) (at : ℕ) → length before ≡ at → levelTooLarge k ≡ false →
+    SmallPart k → counter < 256 ^ 4 →
     securityPart (before ++ (optionalBytes k counter ++ after)) at (isPresent k) ≡ Part.Read (toldPart k counter) (at + optionalLength k)
 unfolding securityPart
 part-back Absent counter before after at e l s c = ap (Part.Read Absent) (omega arith)
 part-back (Present k) counter before after at e l s c =
     let level : levelOf k ≤ 7 = ltb-false 7 (levelOf k) l in
     ap (λ r. behindPlace r at) (security-back k counter before after at e (omega arith, s) c)
-
-same : (m n : ℕ) → Written m ≡ Written n → m ≡ n
-same m n e = cc
 
 -- two addresses under compression share a PAN id
 both-shared : (b : Bool) (d s : OptionalAddress) → cond b (not (bothPresent d s)) false ≡ false → unshared b (modeOf d) ≡ false
@@ -66,7 +61,8 @@ both-shared true (Address.Present (Short p a)) s e = refl
 both-shared true (Address.Present (Extended p a)) s e = refl
 
 module _ (h : Header) (counter : ℕ) (more : List ℕ) (small : Small h) (fits : counter < 256 ^ 4)
-    (level : levelTooLarge (h .«auxiliary_security_header») ≡ false) (shared : unshared (h .«pan_id_compress») (modeOf (h .destination)) ≡ false) where
+    (level : levelTooLarge (h .«auxiliary_security_header») ≡ false)
+    (shared : unshared (h .«pan_id_compress») (modeOf (h .destination)) ≡ false) where
   abbrev bytes : List ℕ
   bytes = headerBytes h counter ++ more
 
@@ -123,16 +119,19 @@ module _ (h : Header) (counter : ℕ) (more : List ℕ) (small : Small h) (fits 
 
   source-read : sourceIn (writtenControl h) bytes ≡ sharing (sourceOwn h) (sharedPan (h .destination)) (h .source)
   source-read =
-      (λ i. addressIn (sourceOwn h) (sharedPan (destination-read i)) (modeOf (h .source)) (at-source i) (3 + addressLength true (h .destination)))
-      ∙ address-back (sourceOwn h) (sharedPan (h .destination)) (h .source) (fixedBytes h ++ to) _ (3 + addressLength true (h .destination)) before-source (small .source)
+      let at = 3 + addressLength true (h .destination) in
+      (λ i. addressIn (sourceOwn h) (sharedPan (destination-read i)) (modeOf (h .source)) (at-source i) at)
+      ∙ address-back (sourceOwn h) (sharedPan (h .destination)) (h .source) (fixedBytes h ++ to) _ at before-source (small .source)
 
   before-security : length ((fixedBytes h ++ to) ++ from) ≡ addressesEnd h
   before-security = length-append (fixedBytes h ++ to) from ∙ (λ i. before-source i + address-length (sourceOwn h) (h .source) i)
 
-  security-read : securityPart bytes (sourceEnd (writtenControl h)) (secured h) ≡ Part.Read (toldPart (h .«auxiliary_security_header») counter) (headerLength h)
+  security-read : securityPart bytes (sourceEnd (writtenControl h)) (secured h)
+      ≡ Part.Read (toldPart (h .«auxiliary_security_header») counter) (headerLength h)
   security-read =
       ap (λ (s : List ℕ). securityPart s (addressesEnd h) (secured h)) at-security
-      ∙ part-back (h .«auxiliary_security_header») counter ((fixedBytes h ++ to) ++ from) more (addressesEnd h) before-security level (small .security) fits
+      ∙ part-back (h .«auxiliary_security_header») counter ((fixedBytes h ++ to) ++ from) more (addressesEnd h)
+      before-security level (small .security) fits
 
   there : headerLength h ≤ length bytes
   there = simp (length-append, header-length) (omega arith)
@@ -149,18 +148,15 @@ module _ (h : Header) (counter : ℕ) (more : List ℕ) (small : Small h) (fits 
   -- the bytes of a record are read as told
   pub header-back : readHeader bytes ≡ Read (toldHeader h counter) (headerLength h)
   header-back =
-      together bytes (writtenControl h) (toldPart (h .«auxiliary_security_header») counter) (headerLength h) stages
-      ∙ (λ i. Read (headerOf (writtenControl h) (seq-read i) (destination-read i) (source-read i) (toldPart (h .«auxiliary_security_header») counter)) (headerLength h))
-
-abbrev accepting : HeaderWritten → Bool
-accepting r = eqb (writtenOutcome r .number) 0
+      let part = toldPart (h .«auxiliary_security_header») counter in
+      together bytes (writtenControl h) part (headerLength h) stages
+      ∙ (λ i. Read (headerOf (writtenControl h) (seq-read i) (destination-read i) (source-read i) part) (headerLength h))
 
 -- so are those of each record that the writer accepts
 pub record-side : (h : Header) (counter : OptionalCounter) (room n : ℕ) (more : List ℕ) → Small h → counterOf counter < 256 ^ 4 →
-    writeHeader h counter room ≡ Written n → readHeader (headerBytes h (counterOf counter) ++ more) ≡ Read (toldHeader h (counterOf counter)) n
-unfolding writeHeader
+    writeHeader h counter room ≡ Written n →
+    readHeader (headerBytes h (counterOf counter) ++ more) ≡ Read (toldHeader h (counterOf counter)) n
 record-side h counter room n more small fits e =
-    let q = none-holds accepting (writeTests h counter room) (Written (headerLength h)) (refl, (refl, (refl, (refl, (refl, (refl, tt)))))) (ap accepting e) in
-    let long : headerLength h ≡ n = same (headerLength h) n (sym (q .1) ∙ e) in
-    header-back h (counterOf counter) more small fits (q .0 .0) (both-shared (h .«pan_id_compress») (h .destination) (h .source) (q .0 .1 .1 .0))
-    ∙ ap (Read (toldHeader h (counterOf counter))) long
+    let q = written-passes h counter room n e in
+    let shared = both-shared (h .«pan_id_compress») (h .destination) (h .source) (q .0 .1 .1 .0) in
+    header-back h (counterOf counter) more small fits (q .0 .0) shared ∙ ap (Read (toldHeader h (counterOf counter))) (q .1)

@@ -6,7 +6,7 @@ use native.Mathlib.Omega.{arith}
 use mathlib.Core.Bool.{Bool, true, false, cond, not}
 use mathlib.Core.List.{List, [], _∷_}
 use mathlib.Core.Logic.{_⊎_, inl, inr}
-use mathlib.Core.Path.{_≡_, refl, sym, ap, _∙_}
+use mathlib.Core.Path.{_≡_, refl, sym, ap, subst, _∙_}
 use borrow.Author.Tests.{lt-ltb, le-ltb, ltb-true, ltb-false}
 use lib.Dec.{ltb, eqb}
 use lib.ListN.{length}
@@ -23,7 +23,6 @@ use Rattle.frame_control.specs.declared.AddressMode.the-variants as Mode
 use Rattle.frame_control.specs.declared.AddressModeRead.the-variants as ModeRead
 use Rattle.frame_control.specs.declared.FrameControl.{FrameControl}
 use Rattle.frame_control.specs.declared.FrameControlRead.the-variants as Control
-use Rattle.frame_control.specs.declared.FrameControlRefusal.{FrameControlRefusal}
 use Rattle.frame_control.specs.declared.FrameType.{FrameType}
 use Rattle.frame_control.specs.declared.FrameType.the-variants as Kind
 use Rattle.frame_control.specs.declared.FrameTypeRead.the-variants as TypeRead
@@ -32,8 +31,9 @@ use Rattle.frame_control.specs.declared.FrameVersion.the-variants as Version
 use Rattle.frame_control.specs.declared.FrameVersionRead.the-variants as VersionRead
 use Rattle.frame_control.specs.Types.{typeOf}
 use Rattle.frame_control.specs.Versions.{versionOf}
-use Rattle.frame_control.specs.Modes.{modeOf}
+use Rattle.frame_control.specs.Modes.{modeOf, modeBits}
 use Rattle.frame_control.specs.Control.{controlOf, controlIn}
+use Rattle.frame_control.proofs.Control.{taken}
 use Rattle.address.specs.Layout.{modeLength}
 use Rattle.security_control.specs.Control.{keyModeOf}
 use Rattle.key_identifier.specs.Key.{keyLength}
@@ -53,12 +53,15 @@ use Rattle.header.specs.Write as write
 use Rattle.header_facts.specs.Order.{addressSize, securitySize, fromEnd, wholeEnd, readTests, answered, writeTests}
 
 -- Writing: the definition is such a list already.
-pub write-in-order : (h : Header) (counter : OptionalCounter) (room : ℕ) → writtenOutcome (writeHeader h counter room) .number ≡ first (writeTests h counter room) 0
+pub write-in-order : (h : Header) (counter : OptionalCounter) (room : ℕ) →
+    writtenOutcome (writeHeader h counter room) .number ≡ first (writeTests h counter room) 0
 unfolding writeHeader
-write-in-order h counter room = first-map (λ (r : HeaderWritten). writtenOutcome r .number) (write.writeTests h counter room) (Written (headerLength h))
+write-in-order h counter room =
+    first-map (λ (r : HeaderWritten). writtenOutcome r .number) (write.writeTests h counter room) (Written (headerLength h))
 
 -- Numbers that are not listed: version 3, type 4, mode 1.
-version-case : (n : ℕ) → n < 4 → ((versionOf n ≡ VersionRead.Refused) × (eqb n 3 ≡ true)) ⊎ ((v : FrameVersion) × (versionOf n ≡ VersionRead.Read v) × (eqb n 3 ≡ false))
+version-case : (n : ℕ) → n < 4 →
+    ((versionOf n ≡ VersionRead.Refused) × (eqb n 3 ≡ true)) ⊎ ((v : FrameVersion) × (versionOf n ≡ VersionRead.Read v) × (eqb n 3 ≡ false))
 unfolding versionOf
 version-case zero h = inr (Version.«Ieee802154_2003», refl, refl)
 version-case (suc zero) h = inr (Version.«Ieee802154_2006», refl, refl)
@@ -66,7 +69,8 @@ version-case (suc (suc zero)) h = inr (Version.Ieee802154, refl, refl)
 version-case (suc (suc (suc zero))) h = inl (refl, refl)
 version-case (suc (suc (suc (suc n)))) h = absurd (omega arith)
 
-type-case : (n : ℕ) → n < 8 → ((typeOf n ≡ TypeRead.Refused) × (eqb n 4 ≡ true)) ⊎ ((t : FrameType) × (typeOf n ≡ TypeRead.Read t) × (eqb n 4 ≡ false))
+type-case : (n : ℕ) → n < 8 →
+    ((typeOf n ≡ TypeRead.Refused) × (eqb n 4 ≡ true)) ⊎ ((t : FrameType) × (typeOf n ≡ TypeRead.Read t) × (eqb n 4 ≡ false))
 unfolding typeOf
 type-case zero h = inr (Kind.Beacon, refl, refl)
 type-case (suc zero) h = inr (Kind.Data, refl, refl)
@@ -91,12 +95,18 @@ record Sized (n : ℕ) (m : AddressMode) : Type 0 where
   full : addressSize false n ≡ modeLength true m
   bare : addressSize true n ≡ modeLength false m
 
+mode-sized : (m : AddressMode) → Sized (modeBits m) m
+unfolding modeOf
+mode-sized Mode.None = record { is = refl; known = refl; nothing = refl; full = refl; bare = refl }
+mode-sized Mode.Short = record { is = refl; known = refl; nothing = refl; full = refl; bare = refl }
+mode-sized Mode.Extended = record { is = refl; known = refl; nothing = refl; full = refl; bare = refl }
+
 mode-case : (n : ℕ) → n < 4 → ((modeOf n ≡ ModeRead.Refused) × (eqb n 1 ≡ true)) ⊎ ((m : AddressMode) × Sized n m)
 unfolding modeOf
-mode-case zero h = inr (Mode.None, record { is = refl; known = refl; nothing = refl; full = refl; bare = refl })
+mode-case zero h = inr (Mode.None, mode-sized Mode.None)
 mode-case (suc zero) h = inl (refl, refl)
-mode-case (suc (suc zero)) h = inr (Mode.Short, record { is = refl; known = refl; nothing = refl; full = refl; bare = refl })
-mode-case (suc (suc (suc zero))) h = inr (Mode.Extended, record { is = refl; known = refl; nothing = refl; full = refl; bare = refl })
+mode-case (suc (suc zero)) h = inr (Mode.Short, mode-sized Mode.Short)
+mode-case (suc (suc (suc zero))) h = inr (Mode.Extended, mode-sized Mode.Extended)
 mode-case (suc (suc (suc (suc n)))) h = absurd (omega arith)
 
 sized : (n : ℕ) (m : AddressMode) (compressed : Bool) → Sized n m → addressSize compressed n ≡ modeLength (not compressed) m
@@ -127,7 +137,9 @@ shifted l at n h =
 -- The security part: refused with 1 exactly when its bytes are not all there.
 part-answered : (s : List ℕ) (at : ℕ) (on : Bool) (make : OptionalSecurityHeader → Header) → at ≤ length s →
     readOutcome (part? (securityPart s at on) (Refused Ended) (λ k end. Read (make k) end))
-    ≡ answered ((ltb (length s) (cond on (at + securitySize (bits (number s at 1) 3 2)) at), 1) ∷ []) (cond on (at + securitySize (bits (number s at 1) 3 2)) at)
+    ≡ answered
+    ((ltb (length s) (cond on (at + securitySize (bits (number s at 1) 3 2)) at), 1) ∷ [])
+    (cond on (at + securitySize (bits (number s at 1) 3 2)) at)
 unfolding securityPart readSecurity
 part-answered s at false make h = simp (le-ltb (length s) at h)
 part-answered s at true make h =
@@ -158,7 +170,8 @@ module _ (s : List ℕ) (c : FrameControl) (to from : ℕ) (p : Sized to (c .des
       whole-end
   unfolding readFields readRest
   fields-answered =
-      let bare : addressSize (c .«pan_id_compress») from ≡ modeLength (not (c .«pan_id_compress»)) (c .source) = sized from (c .source) (c .«pan_id_compress») q in
+      let bare : addressSize (c .«pan_id_compress») from ≡ modeLength (not (c .«pan_id_compress»)) (c .source) =
+      sized from (c .source) (c .«pan_id_compress») q in
       let nothing : cond (c .«pan_id_compress») (eqb to 0) false ≡ unshared (c .«pan_id_compress») (c .destination) =
       ap (λ (b : Bool). cond (c .«pan_id_compress») b false) (p .nothing) ∙ nobody (c .«pan_id_compress») (c .destination) in
       cases (holds? (ltb (length s) (destinationEnd c))) (λ t. simp (p .full, t)) (λ destination.
@@ -196,10 +209,8 @@ pub record Known (w : ℕ) (c : FrameControl) : Type 0 where
   pub places : sourceEnd c ≡ fromEnd w
   pub sourceless : eqb (bits w 14 2) 0 ≡ none (c .source)
 
-never : (r : FrameControlRefusal) (c : FrameControl) → Control.Refused r ≡ Control.Read c → ⊥
-never r c e = let z : _≡_ {A = ℕ} 0 1 = cc in omega arith
-
-known-of : (w : ℕ) (kind : FrameType) (d : AddressMode) (v : FrameVersion) (m : AddressMode) → Sized (bits w 10 2) d → Sized (bits w 14 2) m →
+known-of : (w : ℕ) (kind : FrameType) (d : AddressMode) (v : FrameVersion) (m : AddressMode) → Sized (bits w 10 2) d →
+    Sized (bits w 14 2) m →
     Known w (controlOf w kind d v m)
 known-of w kind d v m p q = record {
   security = refl;
@@ -208,15 +219,9 @@ known-of w kind d v m p q = record {
   sourceless = q .nothing;
 }
 
-same-control : (c d : FrameControl) → Control.Read c ≡ Control.Read d → c ≡ d
-same-control c d e = cc
-
 pub control-known : (w : ℕ) (c : FrameControl) → controlIn w ≡ Control.Read c → Known w c
-unfolding controlIn
 control-known w c e =
-    cases (version-case (bits w 12 2) (omega arith)) (λ v. absurd (never _ c (simp (v .0) at e))) (λ v.
-    cases (type-case (w % 8) (omega arith)) (λ t. absurd (never _ c (simp (v .1, t .0) at e))) (λ t.
-    cases (mode-case (bits w 10 2) (omega arith)) (λ d. absurd (never _ c (simp (v .1, t .1, d .0) at e))) (λ d.
-    cases (mode-case (bits w 14 2) (omega arith)) (λ m. absurd (never _ c (simp (v .1, t .1, d .1 .is, m .0) at e))) (λ m.
-    let same : controlOf w (t .0) (d .0) (v .0) (m .0) ≡ c = same-control _ c (simp (v .1, t .1, d .1 .is, m .1 .is) at e) in
-    rw same at (known-of w (t .0) (d .0) (v .0) (m .0) (d .1) (m .1))))))
+    let k = taken w c e in
+    let destination : Sized (bits w 10 2) (c .destination) = rw (k .destination) at (mode-sized (c .destination)) in
+    let source : Sized (bits w 14 2) (c .source) = rw (k .source) at (mode-sized (c .source)) in
+    subst (λ c. Known w c) (sym (k .fields)) (known-of w (c .«frame_type») (c .destination) (c .version) (c .source) destination source)

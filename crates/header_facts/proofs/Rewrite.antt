@@ -46,7 +46,8 @@ pub record Measured (s : List ℕ) (h : Header) (n : ℕ) : Type 0 where
   pub three : 3 ≤ n
   pub within : n ≤ length s
   pub inside : bit (number s 0 2) 3 ≡ true → fromEnd (number s 0 2) < n
-  pub answer : (room : ℕ) → writtenOutcome (writeHeader h (counterRead (h .«auxiliary_security_header»)) room) ≡ written (number s 0 2) n room
+  pub answer : (room : ℕ) →
+      writtenOutcome (writeHeader h (counterRead (h .«auxiliary_security_header»)) room) ≡ written (number s 0 2) n room
   pub bytes : cleared h s ≡ clearedBy (number s 0 2) (take n s)
 
 -- with a destination, either address is missing exactly where the source is
@@ -58,7 +59,8 @@ source-missing true (Address.Present d) Address.Absent e = refl
 source-missing true (Address.Present d) (Address.Present (Short p a)) e = refl
 source-missing true (Address.Present d) (Address.Present (Extended p a)) e = refl
 
-clear-control : (k : OptionalSecurityHeader) (on : Bool) (at : ℕ) (l : List ℕ) → isPresent k ≡ on → clearControl k at l ≡ cond on (clearAt at 5 3 l) l
+clear-control : (k : OptionalSecurityHeader) (on : Bool) (at : ℕ) (l : List ℕ) → isPresent k ≡ on →
+    clearControl k at l ≡ cond on (clearAt at 5 3 l) l
 clear-control Absent on at l e = rw (← e)
 clear-control (Present k) on at l e = rw (← e)
 
@@ -74,7 +76,8 @@ module _ (s : List ℕ) (c : FrameControl) (k : OptionalSecurityHeader) (n : ℕ
 
   lacks : lacksAddress header ≡ lacksSource w
   lacks =
-      source-missing (c .«pan_id_compress») (header .destination) (header .source) (ap (unshared (c .«pan_id_compress»)) (to-mode s c k n b q) ∙ q .shared)
+      source-missing (c .«pan_id_compress») (header .destination) (header .source)
+      (ap (unshared (c .«pan_id_compress»)) (to-mode s c k n b q) ∙ q .shared)
       ∙ (λ i. cond (known .compress i) (ap none (from-mode s c k n b q) i) false)
       ∙ ap (λ (x : Bool). cond (bit w 6) x false) (sym (known .sourceless))
 
@@ -112,7 +115,9 @@ module _ (s : List ℕ) (c : FrameControl) (k : OptionalSecurityHeader) (n : ℕ
   bytes : cleared header s ≡ clearedBy w (take n s)
   bytes =
       clear-control k (bit w 3) (addressesEnd header) _ secured
-      ∙ (λ i. cond (bit w 3) (clearAt (place i) 5 3 (clearAt 1 0 2 (clearAt 0 7 1 (take (length-again s c k n b q i) s)))) (clearAt 1 0 2 (clearAt 0 7 1 (take (length-again s c k n b q i) s))))
+      ∙ (λ i. cond (bit w 3)
+      (clearAt (place i) 5 3 (clearAt 1 0 2 (clearAt 0 7 1 (take (length-again s c k n b q i) s))))
+      (clearAt 1 0 2 (clearAt 0 7 1 (take (length-again s c k n b q i) s))))
 
   measured : Measured s header n
   measured =

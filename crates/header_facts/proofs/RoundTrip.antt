@@ -19,12 +19,12 @@ use Rattle.address.specs.declared.OptionalAddress.{OptionalAddress}
 use Rattle.address.specs.declared.OptionalAddress.the-variants as Address
 use Rattle.address.specs.Address.{modeOf, sharedPan}
 use Rattle.address.specs.Layout.{addressIn}
-use Rattle.address.proofs.Laws.{address-more, address-small, address-mode, address-shares, shared-small}
+use Rattle.address.proofs.Addresses.{address-more, address-small, address-mode, address-shares, shared-small}
 use Rattle.security.specs.declared.OptionalSecurityHeader.{OptionalSecurityHeader}
 use Rattle.security.specs.declared.OptionalSecurityHeader.the-variants.{Absent, Present}
 use Rattle.security.specs.Optional.{isPresent, levelTooLarge, missing, counterOf, counterRead}
 use Rattle.security.specs.Security.{lengthIn, securityIn, levelOf}
-use Rattle.security.proofs.Laws.{security-small, counter-small, security-told}
+use Rattle.security.proofs.Security.{security-small, counter-small, security-told}
 use Rattle.security.proofs.RoundTrip.{accepted-whole, read-more}
 use Rattle.header.specs.declared.Header.{Header}
 use Rattle.header.specs.declared.HeaderRead.the-variants.{Read}
@@ -33,7 +33,7 @@ use Rattle.header.specs.declared.SecurityPart.the-variants as Part
 use Rattle.header.specs.Record.{headerOf, addressesEnd, headerLength}
 use Rattle.header.specs.Read.{unshared, destinationEnd, sourceEnd, destinationIn, sourceIn, behindPlace, securityPart, readHeader}
 use Rattle.header.specs.Write.{bothPresent, lacksAddress, writeHeader, headerBytes}
-use Rattle.header.proofs.Laws.{header-length}
+use Rattle.header.proofs.Writing.{header-length}
 use Rattle.header.proofs.Apart.{Stages, headerIn, together, apart}
 use Rattle.header.proofs.Bounds.{security-found, length-bounds}
 use Rattle.header_facts.specs.RoundTrip.{quiet, lost, rewritten, isAbsent, sourceless, RoundTrip, toldPart, SmallPart, Small}
@@ -47,7 +47,8 @@ pub record Part-facts (k : OptionalSecurityHeader) : Type 0 where
   pub counter : counterOf (counterRead k) < 256 ^ 4
   pub same : toldPart k (counterOf (counterRead k)) ≡ k
 
-pub part-facts : (s : List ℕ) (at : ℕ) (on : Bool) (k : OptionalSecurityHeader) (end : ℕ) → Bytes s → securityPart s at on ≡ Part.Read k end → Part-facts k
+pub part-facts : (s : List ℕ) (at : ℕ) (on : Bool) (k : OptionalSecurityHeader) (end : ℕ) → Bytes s →
+    securityPart s at on ≡ Part.Read k end → Part-facts k
 part-facts s at on k end b e =
     cases (security-found s at on k end e)
     (λ none. rw (none .1) (record { small = tt; level = refl; counter = omega arith; same = refl }))
@@ -64,7 +65,8 @@ part-facts s at on k end b e =
     }))
 
 -- bytes behind alter no security part
-part-more : (s t : List ℕ) (at : ℕ) (on : Bool) (k : OptionalSecurityHeader) (end : ℕ) → securityPart s at on ≡ Part.Read k end → securityPart (s ++ t) at on ≡ Part.Read k end
+part-more : (s t : List ℕ) (at : ℕ) (on : Bool) (k : OptionalSecurityHeader) (end : ℕ) → securityPart s at on ≡ Part.Read k end →
+    securityPart (s ++ t) at on ≡ Part.Read k end
 unfolding securityPart
 part-more s t at false k end e = e
 part-more s t at true k end e =
@@ -72,7 +74,8 @@ part-more s t at true k end e =
     (λ none. absurd (true≢false (none .0)))
     (λ found.
     let x = found .1 in
-    ap (λ r. behindPlace r at) (read-more s t at (x .header) (lengthIn s at) (x .read)) ∙ (λ i. Part.Read (sym (x .is) i) (sym (x .ends) i)))
+    ap (λ r. behindPlace r at) (read-more s t at (x .header) (lengthIn s at) (x .read))
+    ∙ (λ i. Part.Read (sym (x .is) i) (sym (x .ends) i)))
 
 -- no refusal 6 for two addresses, and no refusal 7 with the counter that was read
 both-there : (compress : Bool) (d s : OptionalAddress) → unshared compress (modeOf d) ≡ false → cond compress (isAbsent s) false ≡ false →
@@ -126,11 +129,13 @@ module _ (s : List ℕ) (c : FrameControl) (k : OptionalSecurityHeader) (n : ℕ
   small : Small header
   small =
       let room = q .addresses in
+      let own = not (c .«pan_id_compress») in
       let destination = address-small true (pan 0) (c .destination) s 3 b (omega arith) (omega arith) in
+      let pan-small = shared-small (destinationIn c s) destination in
       record {
         seq = number-small s 2 1 b (q .three);
         destination = destination;
-        source = address-small (not (c .«pan_id_compress»)) (sharedPan (destinationIn c s)) (c .source) s (destinationEnd c) b (shared-small (destinationIn c s) destination) (omega arith);
+        source = address-small own (sharedPan (destinationIn c s)) (c .source) s (destinationEnd c) b pan-small (omega arith);
         security = facts .small;
       }
 
@@ -149,8 +154,10 @@ module _ (s : List ℕ) (c : FrameControl) (k : OptionalSecurityHeader) (n : ℕ
 
   again : (more : List ℕ) → readHeader (rewritten header ++ more) ≡ Read (lost header) n
   again more =
+      let own = not (c .«pan_id_compress») in
+      let source = address-shares own (sharedPan (destinationIn c s)) (c .source) s (destinationEnd c) in
       header-back header counter more small (facts .counter) (facts .level) shared
-      ∙ (λ i. Read (quiet header (address-shares (not (c .«pan_id_compress»)) (sharedPan (destinationIn c s)) (c .source) s (destinationEnd c) i) (facts .same i)) (length-again s c k n b q i))
+      ∙ (λ i. Read (quiet header (source i) (facts .same i)) (length-again s c k n b q i))
 
   long : length (rewritten header) ≡ n
   long = header-length header counter ∙ length-again s c k n b q

@@ -1,11 +1,11 @@
 -- Document 01's order of refusals by itself, as plain tests on the bytes and the record, each with its number: the
 -- first that holds is given, and 0 where none does.
 use Rattle.octets.specs.Words.{ℕ, _+_, _%_, Bool, false, cond, List, [], _∷_, ltb, eqb, length}
-use Rattle.octets.specs.{declared.Outcome.Outcome, Bits.bits, Bits.bit, Bits.find, Little.number, Outcome.accepted}
-use Rattle.octets.specs.{Outcome.refused}
+use Rattle.octets.specs.{declared.Outcome.Outcome, Outcome.accepted, Outcome.refused}
+use Rattle.octets.specs.{Bits.bits, Bits.bit, Bits.find, Little.number}
 use Rattle.security.specs.{declared.OptionalCounter.OptionalCounter, Optional.levelTooLarge}
-use Rattle.header.specs.{declared.Header.Header, Record.addressesEnd, Record.headerLength, Write.lacksAddress}
-use Rattle.header.specs.{Write.lacksCounter}
+use Rattle.header.specs.{declared.Header.Header, Record.addressesEnd, Record.headerLength}
+use Rattle.header.specs.Write.{lacksAddress, lacksCounter}
 
 -- bytes of an address by the number of its mode: 4 or 10, without its PAN id 2 or 8
 abbrev pub addressSize : Bool → ℕ → ℕ

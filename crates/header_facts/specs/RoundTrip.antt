@@ -2,17 +2,17 @@
 -- record's side.
 use Rattle.octets.specs.Words.{ℕ, _^_, _≤_, _<_, Bool, true, false, cond, List, _++_, _≡_, length, take, drop}
 use Rattle.octets.specs.{Bits.bit, Bits.clearAt, Buffer.laid}
-use Rattle.key_identifier.specs.{Key.SmallKey}
-use Rattle.address.specs.{declared.OptionalAddress.OptionalAddress, Address.sharedPan, Layout.sharing}
-use Rattle.address.specs.{Layout.SmallAddress}
-use Rattle.security.specs.{declared.OptionalSecurityHeader.OptionalSecurityHeader, Optional.counterOf}
-use Rattle.security.specs.{Optional.counterRead, RoundTrip.told}
+use Rattle.key_identifier.specs.Key.{SmallKey}
+use Rattle.address.specs.declared.{OptionalAddress.OptionalAddress}
+use Rattle.address.specs.{Address.sharedPan, Layout.sharing, Layout.SmallAddress}
+use Rattle.security.specs.declared.{OptionalSecurityHeader.OptionalSecurityHeader}
 use Rattle.security.specs.declared.OptionalSecurityHeader.the-variants.{Absent, Present}
+use Rattle.security.specs.{Optional.counterOf, Optional.counterRead, RoundTrip.told}
 use Rattle.header.specs.{declared.Header.Header, Record.sourceOwn, Record.addressesEnd, Record.headerLength}
 use Rattle.header.specs.{Read.readHeader, Write.writeHeader, Write.headerBytes}
 use Rattle.header.specs.declared.HeaderRead.the-variants.{Read}
 use Rattle.header.specs.declared.HeaderWritten.the-variants.{Written}
-use Rattle.header_facts.specs.{Order.fromEnd}
+use Rattle.header_facts.specs.Order.{fromEnd}
 
 -- the record with the two flags that writing loses, `seq_no_suppress` and `ie_present`, false, and with the source and
 -- security part given
@@ -47,11 +47,16 @@ clearControl Absent at s = s
 clearControl (Present k) at s = clearAt at 5 3 s
 
 abbrev pub cleared : Header → List ℕ → List ℕ
-cleared h s = clearControl (h .«auxiliary_security_header») (addressesEnd h) (clearAt 1 0 2 (clearAt 0 7 1 (take (headerLength h) s)))
+cleared h s =
+    clearControl (h .«auxiliary_security_header») (addressesEnd h)
+    (clearAt 1 0 2 (clearAt 0 7 1 (take (headerLength h) s)))
 
 -- the same of bytes l that begin with a header of the frame control w
 abbrev pub clearedBy : ℕ → List ℕ → List ℕ
-clearedBy w l = cond (bit w 3) (clearAt (fromEnd w) 5 3 (clearAt 1 0 2 (clearAt 0 7 1 l))) (clearAt 1 0 2 (clearAt 0 7 1 l))
+clearedBy w l =
+    cond (bit w 3)
+    (clearAt (fromEnd w) 5 3 (clearAt 1 0 2 (clearAt 0 7 1 l)))
+    (clearAt 1 0 2 (clearAt 0 7 1 l))
 
 -- compression set without a source: read, and not written (document 01, P9)
 abbrev pub isAbsent : OptionalAddress → Bool
@@ -67,7 +72,8 @@ pub record RoundTrip (s : List ℕ) (h : Header) (n : ℕ) : Type 0 where
   pub within : n ≤ length s
   pub occupied : headerLength h ≡ n
   -- with room, writing it again is accepted, unless it is compressed without a source
-  pub accepted : (room : ℕ) → sourceless h ≡ false → n ≤ room → writeHeader h (counterRead (h .«auxiliary_security_header»)) room ≡ Written n
+  pub accepted : (room : ℕ) → sourceless h ≡ false → n ≤ room →
+      writeHeader h (counterRead (h .«auxiliary_security_header»)) room ≡ Written n
   -- it gives the bytes that were read, but for the listed bits cleared, and as many
   pub written : rewritten h ≡ cleared h s
   pub long : length (rewritten h) ≡ n
@@ -77,7 +83,8 @@ pub record RoundTrip (s : List ℕ) (h : Header) (n : ℕ) : Type 0 where
   pub again : (more : List ℕ) → readHeader (rewritten h ++ more) ≡ Read (lost h) n
   -- writing that once more changes nothing
   pub settled : rewritten (lost h) ≡ rewritten h
-  pub once-more : (room : ℕ) → sourceless h ≡ false → n ≤ room → writeHeader (lost h) (counterRead (h .«auxiliary_security_header»)) room ≡ Written n
+  pub once-more : (room : ℕ) → sourceless h ≡ false → n ≤ room →
+      writeHeader (lost h) (counterRead (h .«auxiliary_security_header»)) room ≡ Written n
   -- bytes added behind the input alter none of this
   pub behind : (more : List ℕ) → readHeader (s ++ more) ≡ Read h n
 
@@ -88,7 +95,10 @@ toldPart Absent counter = Absent
 toldPart (Present k) counter = Present (told k counter)
 
 abbrev pub toldHeader : Header → ℕ → Header
-toldHeader h counter = quiet h (sharing (sourceOwn h) (sharedPan (h .destination)) (h .source)) (toldPart (h .«auxiliary_security_header») counter)
+toldHeader h counter =
+    quiet h
+    (sharing (sourceOwn h) (sharedPan (h .destination)) (h .source))
+    (toldPart (h .«auxiliary_security_header») counter)
 
 -- each number within its width, as in every record that a program can hold
 abbrev pub SmallPart : OptionalSecurityHeader → Type 0

@@ -4,7 +4,8 @@ ghost use Rattle.octets.specs.Words.{_≤_, _<_, false, cond, _≡_, eqb};
 ghost use Rattle.octets.specs.Bits.{bits, bit};
 ghost use Rattle.octets.specs.Little.{number};
 ghost use Rattle.header.specs.Read.{readHeader, readOutcome};
-ghost use Rattle.header_facts.specs.Order.{addressSize, securitySize, toEnd, fromEnd, wholeEnd, fieldTests, answered, lacksSource};
+ghost use Rattle.header_facts.specs.Order.{addressSize, securitySize, toEnd, fromEnd, wholeEnd};
+ghost use Rattle.header_facts.specs.Order.{fieldTests, answered, lacksSource};
 use octets::Outcome;
 use octets::u16_at;
 
@@ -15,7 +16,8 @@ fn byte_at(s: &[u8], at: usize) -> u8
     if at < s.len() { s[at] } else { 0 }
 }
 
-// Bytes of an address by its compression bit and the number of its mode. Asks that these are one bit and two.
+// Bytes of an address by its compression bit and the number of its mode, 2 short or 3 extended: its PAN id (2), unless
+// it is compressed, and its address (2 or 8). Asks that these are one bit and two.
 fn address_size(compressed: usize, mode: usize) -> usize
     requires { ⌜ compressed < 2 ⌝ }
     requires { ⌜ mode < 4 ⌝ }
@@ -47,7 +49,8 @@ pub fn addresses_end(w: usize) -> usize
     destination_end(w) + address_size(w / 64 % 2, w / 16384 % 4)
 }
 
-// Bytes of a security part by the number of its key mode.
+// Bytes of a security part by the number of its key mode: control and frame counter are 5, and then there is nothing,
+// an index (1), a source (4) and an index, or a source (8) and an index.
 fn security_size(mode: u8) -> usize
     ensures { λ r. ⌜ r ≡ securitySize mode ⌝ }
     ensures { λ r. ⌜ r ≤ 14 ⌝ }

@@ -1,10 +1,9 @@
 -- The extended address: eight bytes, little-endian (document 01, "Header layout"; IEEE 802.15.4-2011, 5.2.1.4 and
 -- 5.2.1.6).
 use Rattle.octets.specs.Words.{ℕ, List, [], _∷_}
-use Rattle.octets.specs.{declared.Outcome.Outcome, Little.number, Order.first, Outcome.accepted, Outcome.refused}
-use Rattle.octets.specs.{Part.ends}
-use Rattle.identifiers.specs.{declared.ExtendedAddress.ExtendedAddress}
-use Rattle.identifiers.specs.{declared.ExtendedAddressRead.ExtendedAddressRead}
+use Rattle.octets.specs.{declared.Outcome.Outcome, Outcome.accepted, Outcome.refused, Order.first}
+use Rattle.octets.specs.{Little.number, Part.ends}
+use Rattle.identifiers.specs.declared.{ExtendedAddress.ExtendedAddress, ExtendedAddressRead.ExtendedAddressRead}
 use Rattle.identifiers.specs.declared.ExtendedAddressRead.the-variants.{Read, Ended}
 
 abbrev pub extended : ℕ → ExtendedAddress

@@ -1,8 +1,8 @@
 -- The PAN id: two bytes, little-endian (document 01, "Header layout"; IEEE 802.15.4-2011, 5.2.1.3 and 5.2.1.5).
 use Rattle.octets.specs.Words.{ℕ, List, [], _∷_}
-use Rattle.octets.specs.{declared.Outcome.Outcome, Little.number, Order.first, Outcome.accepted, Outcome.refused}
-use Rattle.octets.specs.{Part.ends}
-use Rattle.identifiers.specs.{declared.PanId.PanId, declared.PanIdRead.PanIdRead}
+use Rattle.octets.specs.{declared.Outcome.Outcome, Outcome.accepted, Outcome.refused, Order.first}
+use Rattle.octets.specs.{Little.number, Part.ends}
+use Rattle.identifiers.specs.declared.{PanId.PanId, PanIdRead.PanIdRead}
 use Rattle.identifiers.specs.declared.PanIdRead.the-variants.{Read, Ended}
 
 abbrev pub pan : ℕ → PanId

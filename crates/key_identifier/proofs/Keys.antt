@@ -16,7 +16,8 @@ use Rattle.key_identifier.specs.declared.OptionalKeySource.{OptionalKeyS
 use Rattle.key_identifier.specs.declared.OptionalKeySource.the-variants as Source
 use Rattle.key_identifier.specs.declared.OptionalKeyIdentifier.{OptionalKeyIdentifier}
 use Rattle.key_identifier.specs.declared.OptionalKeyIdentifier.the-variants.{Absent, Present}
-use Rattle.key_identifier.specs.Key.{sourceMode, modeOfKey, keyLength, keyIn, sourceLength, sourceBytes, keyBytes, SmallSource, SmallKey}
+use Rattle.key_identifier.specs.Key.{sourceMode, modeOfKey, keyLength, keyIn, sourceLength, sourceBytes, keyBytes, SmallSource}
+use Rattle.key_identifier.specs.Key.{SmallKey}
 
 -- a key identifier is its source and one byte
 pub source-key : (source : OptionalKeySource) → keyLength (sourceMode source) ≡ sourceLength source + 1
@@ -43,7 +44,8 @@ pub key-bytes : (k : OptionalKeyIdentifier) → Bytes (keyBytes k)
 unfolding keyBytes
 key-bytes Absent = tt
 key-bytes (Present k) =
-    bytes-append (sourceBytes (k .«key_source»)) (split 1 (k .«key_index»)) (source-bytes (k .«key_source»)) (split-bytes 1 (k .«key_index»))
+    bytes-append (sourceBytes (k .«key_source»)) (split 1 (k .«key_index»))
+    (source-bytes (k .«key_source»)) (split-bytes 1 (k .«key_index»))
 
 -- a number of n bytes and an index behind it, read back
 module _ (before after : List ℕ) (at n v i : ℕ) (e : length before ≡ at) where
@@ -56,12 +58,16 @@ module _ (before after : List ℕ) (at n v i : ℕ) (e : length before ≡ at) w
       rw (append-assoc (split n v) (split 1 i) after, ← append-assoc before (split n v) (split 1 i ++ after))
       (number-back (before ++ split n v) (at + n) 1 i after k h)
 
-present-back : (source : OptionalKeySource) (i : ℕ) (before after : List ℕ) (at : ℕ) → length before ≡ at → SmallSource source → i < 256 ^ 1 →
-    keyIn (sourceMode source) (before ++ ((sourceBytes source ++ split 1 i) ++ after)) at ≡ Present (record { «key_source» = source; «key_index» = i })
+present-back : (source : OptionalKeySource) (i : ℕ) (before after : List ℕ) (at : ℕ) → length before ≡ at → SmallSource source →
+    i < 256 ^ 1 →
+    keyIn (sourceMode source) (before ++ ((sourceBytes source ++ split 1 i) ++ after)) at
+    ≡ Present (record { «key_source» = source; «key_index» = i })
 unfolding keyIn
 present-back Source.Absent i before after at e h j = rw (number-back before at 1 i after e j)
-present-back (Source.Present (Short k)) i before after at e h j = rw (first-back before after at 4 k i e h, index-back before after at 4 k i e j)
-present-back (Source.Present (Long k)) i before after at e h j = rw (first-back before after at 8 k i e h, index-back before after at 8 k i e j)
+present-back (Source.Present (Short k)) i before after at e h j =
+    rw (first-back before after at 4 k i e h, index-back before after at 4 k i e j)
+present-back (Source.Present (Long k)) i before after at e h j =
+    rw (first-back before after at 8 k i e h, index-back before after at 8 k i e j)
 
 absent-back : (s : List ℕ) (at : ℕ) → keyIn Mode.None s at ≡ Absent
 unfolding keyIn
@@ -80,7 +86,8 @@ number-and-index : (s : List ℕ) (at n : ℕ) → Bytes s → at + (n + 1) ≤ 
 number-and-index s at n b h =
     rw (number-again s at n b (omega arith), number-again s (at + n) 1 b (omega arith), ← drop-drop n at s) (sym (take-add n 1 (drop at s)))
 
-pub key-again : (m : KeyIdentifierMode) (s : List ℕ) (at : ℕ) → Bytes s → at + keyLength m ≤ length s → keyBytes (keyIn m s at) ≡ take (keyLength m) (drop at s)
+pub key-again : (m : KeyIdentifierMode) (s : List ℕ) (at : ℕ) → Bytes s → at + keyLength m ≤ length s →
+    keyBytes (keyIn m s at) ≡ take (keyLength m) (drop at s)
 unfolding keyIn keyBytes
 key-again Mode.None s at b h = refl
 key-again Mode.KeyIndex s at b h = number-again s at 1 b h

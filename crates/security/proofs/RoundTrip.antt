@@ -22,7 +22,8 @@ use Rattle.key_identifier.specs.Key.{modeOfKey, keyLength}
 use Rattle.security.specs.Security.{lengthIn, securityIn, levelOf, securityLength}
 use Rattle.security.specs.Answer.{readSecurity, writeSecurity}
 use Rattle.security.specs.RoundTrip.{cleared, rewritten, RoundTrip}
-use Rattle.security.proofs.Laws.{security-length, security-bytes, security-back, security-again, security-small, counter-small, security-told, length-again, length-more, security-more}
+use Rattle.security.proofs.Security.{security-length, security-bytes, security-back, security-again, security-small, counter-small}
+use Rattle.security.proofs.Security.{security-told, length-again, length-more, security-more}
 
 never : (h : AuxiliarySecurityHeader) (n : ℕ) → Ended ≡ Read h n → ⊥
 never h n e = let z : _≡_ {A = ℕ} 0 1 = cc in omega arith
@@ -43,14 +44,16 @@ accepted-whole s at h n e =
     (omega arith, p .0, p .1))
 
 -- bytes behind it alter nothing
-whole-more : (s more : List ℕ) (at : ℕ) → at + lengthIn s at ≤ length s → readSecurity (s ++ more) at ≡ Read (securityIn s at) (lengthIn s at)
+whole-more : (s more : List ℕ) (at : ℕ) → at + lengthIn s at ≤ length s →
+    readSecurity (s ++ more) at ≡ Read (securityIn s at) (lengthIn s at)
 unfolding readSecurity
 whole-more s more at whole =
     let there : lengthIn s at ≤ length (s ++ more) - at = rw (length-append s more) (omega arith) in
     let enough : ends (s ++ more) at (lengthIn s at) ≡ false = le-ltb (length (s ++ more) - at) (lengthIn s at) there in
     simp (length-more s more at whole, enough, security-more s more at whole)
 
-pub read-more : (s more : List ℕ) (at : ℕ) (h : AuxiliarySecurityHeader) (n : ℕ) → readSecurity s at ≡ Read h n → readSecurity (s ++ more) at ≡ Read h n
+pub read-more : (s more : List ℕ) (at : ℕ) (h : AuxiliarySecurityHeader) (n : ℕ) → readSecurity s at ≡ Read h n →
+    readSecurity (s ++ more) at ≡ Read h n
 read-more s more at h n e =
     let q = accepted-whole s at h n e in
     whole-more s more at (q .0) ∙ (λ i. Read (q .1 i) (q .2 i))
@@ -69,7 +72,8 @@ module _ (s : List ℕ) (at : ℕ) (b : Bytes s) (whole : at + lengthIn s at ≤
 
   again : (before after : List ℕ) → readSecurity (before ++ (rewritten header ++ after)) (length before) ≡ Read header (lengthIn s at)
   again before after =
-      security-back header (header .«frame_counter») before after (length before) refl (security-small s at b whole) (counter-small s at b whole)
+      security-back header (header .«frame_counter») before after (length before) refl
+      (security-small s at b whole) (counter-small s at b whole)
       ∙ (λ i. Read (security-told s at b whole i) (length-again s at b whole i))
 
   settled : cleared (rewritten header) 0 ≡ rewritten header
@@ -101,5 +105,6 @@ by-mode Mode.KeySource4 = inr (inr (inl refl))
 by-mode Mode.KeySource8 = inr (inr (inr refl))
 
 -- a security header takes 5, 6, 10 or 14 bytes
-pub lengths : (h : AuxiliarySecurityHeader) → (securityLength h ≡ 5) ⊎ ((securityLength h ≡ 6) ⊎ ((securityLength h ≡ 10) ⊎ (securityLength h ≡ 14)))
+pub lengths : (h : AuxiliarySecurityHeader) →
+    (securityLength h ≡ 5) ⊎ ((securityLength h ≡ 6) ⊎ ((securityLength h ≡ 10) ⊎ (securityLength h ≡ 14)))
 lengths h = by-mode (modeOfKey (h .«key_identifier»))

@@ -2,14 +2,15 @@
 -- numbers").
 use Rattle.octets.specs.Words.{ℕ, List, [], _∷_, ltb}
 use Rattle.octets.specs.{declared.Outcome.Outcome, Order.first, Outcome.accepted, Outcome.refused, Part.ends}
-use Rattle.security.specs.{declared.AuxiliarySecurityHeader.AuxiliarySecurityHeader}
-use Rattle.security.specs.{declared.OptionalCounter.OptionalCounter}
-use Rattle.security.specs.{declared.SecurityHeaderRead.SecurityHeaderRead}
-use Rattle.security.specs.{declared.SecurityHeaderWritten.SecurityHeaderWritten, Optional.missing}
-use Rattle.security.specs.{Security.lengthIn, Security.securityIn, Security.levelOf, Security.securityLength}
+use Rattle.security.specs.declared.{AuxiliarySecurityHeader.AuxiliarySecurityHeader}
+use Rattle.security.specs.declared.{OptionalCounter.OptionalCounter, SecurityHeaderRead.SecurityHeaderRead}
+use Rattle.security.specs.declared.{SecurityHeaderWritten.SecurityHeaderWritten}
+use Rattle.security.specs.Security.{lengthIn, securityIn, levelOf, securityLength}
+use Rattle.security.specs.Optional.{missing}
 use Rattle.security.specs.declared.SecurityHeaderRead.the-variants.{Read, Ended}
 use Rattle.security.specs.declared.SecurityHeaderWritten.the-variants.{Written, TooLarge, MissingCounter, Full}
 
+-- the security header at a place, as long as its control byte announces
 unfoldable pub readSecurity : List ℕ → ℕ → SecurityHeaderRead
 readSecurity s at = first ((ends s at (lengthIn s at), Ended) ∷ []) (Read (securityIn s at) (lengthIn s at))
 
@@ -17,6 +18,7 @@ abbrev pub readOutcome : SecurityHeaderRead → Outcome
 readOutcome (Read h n) = accepted n
 readOutcome Ended = refused 1
 
+-- writing one at a place with a counter, where one is handed over
 unfoldable pub writeSecurity : AuxiliarySecurityHeader → OptionalCounter → List ℕ → ℕ → SecurityHeaderWritten
 writeSecurity h counter out at =
     first

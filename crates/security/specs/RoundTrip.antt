@@ -1,11 +1,11 @@
 -- Demand 3 for a security header: read, written again with the counter that was read, and read once more.
 use Rattle.octets.specs.Words.{ℕ, _-_, _≤_, List, _++_, _≡_, length, take, drop}
-use Rattle.octets.specs.{Bits.clearAt}
-use Rattle.security_control.specs.{Control.controlOf}
-use Rattle.key_identifier.specs.{Key.modeOfKey}
-use Rattle.security.specs.{declared.AuxiliarySecurityHeader.AuxiliarySecurityHeader, Security.securityOf}
-use Rattle.security.specs.{Security.lengthIn, Security.levelOf, Security.securityBytes, Answer.readSecurity}
-use Rattle.security.specs.{Answer.writeSecurity}
+use Rattle.octets.specs.Bits.{clearAt}
+use Rattle.security_control.specs.Control.{controlOf}
+use Rattle.key_identifier.specs.Key.{modeOfKey}
+use Rattle.security.specs.declared.{AuxiliarySecurityHeader.AuxiliarySecurityHeader}
+use Rattle.security.specs.Security.{securityOf, lengthIn, levelOf, securityBytes}
+use Rattle.security.specs.Answer.{readSecurity, writeSecurity}
 use Rattle.security.specs.declared.OptionalCounter.the-variants.{Present}
 use Rattle.security.specs.declared.SecurityHeaderRead.the-variants.{Read}
 use Rattle.security.specs.declared.SecurityHeaderWritten.the-variants.{Written}
@@ -26,7 +26,8 @@ rewritten h = securityBytes h (h .«frame_counter»)
 -- what holds of a security header h of n bytes that was read from s at a place
 pub record RoundTrip (s : List ℕ) (at : ℕ) (h : AuxiliarySecurityHeader) (n : ℕ) : Type 0 where
   -- with room, writing it again is accepted
-  pub accepted : (out : List ℕ) (place : ℕ) → n ≤ length out - place → writeSecurity h (Present (h .«frame_counter»)) out place ≡ Written n
+  pub accepted : (out : List ℕ) (place : ℕ) → n ≤ length out - place →
+      writeSecurity h (Present (h .«frame_counter»)) out place ≡ Written n
   -- it gives the bytes that were read, but for the listed bits cleared, and as many
   pub written : rewritten h ≡ cleared s at
   pub long : length (rewritten h) ≡ n

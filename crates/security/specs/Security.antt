@@ -1,12 +1,12 @@
 -- The auxiliary security header, document 01, "Header layout" (IEEE 802.15.4-2011, 7.4): control (1), frame counter
 -- (4), key identifier.
 use Rattle.octets.specs.Words.{ℕ, _+_, _<_, List, _++_}
-use Rattle.octets.specs.{Little.number, Little.split}
-use Rattle.security_control.specs.{declared.SecurityControl.SecurityControl, Control.controlOf, Control.controlIn}
-use Rattle.security_control.specs.{Control.controlBits}
-use Rattle.key_identifier.specs.{declared.OptionalKeyIdentifier.OptionalKeyIdentifier, Key.modeOfKey, Key.keyLength}
-use Rattle.key_identifier.specs.{Key.keyIn, Key.keyBytes, Key.SmallKey}
-use Rattle.security.specs.{declared.AuxiliarySecurityHeader.AuxiliarySecurityHeader}
+use Rattle.octets.specs.Little.{number, split}
+use Rattle.security_control.specs.declared.{SecurityControl.SecurityControl}
+use Rattle.security_control.specs.Control.{controlOf, controlIn, controlBits}
+use Rattle.key_identifier.specs.declared.{OptionalKeyIdentifier.OptionalKeyIdentifier}
+use Rattle.key_identifier.specs.Key.{modeOfKey, keyLength, keyIn, keyBytes, SmallKey}
+use Rattle.security.specs.declared.{AuxiliarySecurityHeader.AuxiliarySecurityHeader}
 
 abbrev pub securityOf : SecurityControl → ℕ → OptionalKeyIdentifier → AuxiliarySecurityHeader
 securityOf control counter key = record { control = control; «frame_counter» = counter; «key_identifier» = key }

@@ -3,7 +3,8 @@
 ghost use Rattle.octets.specs.Words.{_+_, _≤_, _≡_, length};
 ghost use Rattle.octets.specs.Buffer.{laid, after};
 ghost use Rattle.security.specs.Security.{securityOf, securityLength, writtenControl, securityBytes};
-ghost use Rattle.security.specs.Optional.{isPresent, levelTooLarge, optionalLength, optionalBytes, missing, counterOf, counterRead};
+ghost use Rattle.security.specs.Optional.{isPresent, levelTooLarge, optionalLength, optionalBytes};
+ghost use Rattle.security.specs.Optional.{missing, counterOf, counterRead};
 ghost use Rattle.security.specs.Answer.{readSecurity, readOutcome, writeSecurity, writtenOutcome};
 use key_identifier::OptionalKeyIdentifier;
 use key_identifier::key_at;
@@ -56,6 +57,7 @@ impl OptionalSecurityHeader {
         }
     }
 
+    // How many bytes it takes in a frame, none where it is absent.
     pub fn octets(self) -> usize
         ensures { λ r. ⌜ r ≡ optionalLength self ⌝ }
         ensures { λ r. ⌜ r ≤ 14 ⌝ }
@@ -91,6 +93,7 @@ impl OptionalSecurityHeader {
 }
 
 impl OptionalCounter {
+    // No counter is handed over.
     pub fn is_missing(self) -> bool
         ensures { λ r. ⌜ r ≡ missing self ⌝ }
     {
@@ -176,6 +179,7 @@ impl AuxiliarySecurityHeader {
         5 + key_octets(key.mode())
     }
 
+    // Reads it at a place: its first byte tells how many there are to be.
     pub fn read(s: &[u8], at: usize) -> SecurityHeaderRead
         ensures { λ r. ⌜ r ≡ readSecurity (now (s .entry)) at ⌝ }
     {
@@ -228,10 +232,12 @@ impl AuxiliarySecurityHeader {
         put_key(key, out, behind_counter)
     }
 
-    // The key mode comes from the key identifier, the counter from the caller: the record's own counter is not written.
+    // Writes it at a place. The key mode comes from the key identifier, the counter from the caller: the record's own
+    // counter is not written.
     pub fn write(self, out: &mut [u8], at: usize, counter: OptionalCounter) -> SecurityHeaderWritten
         ensures { λ r. ⌜ r ≡ writeSecurity self counter (now (out .entry)) at ⌝ }
-        ensures { λ r. ⌜ now (out .exit) ≡ after (writtenOutcome r) (now (out .entry)) at (securityBytes self (counterOf counter)) ⌝ }
+        ensures { λ r. ⌜ now (out .exit) ≡
+            after (writtenOutcome r) (now (out .entry)) at (securityBytes self (counterOf counter)) ⌝ }
     {
         let control = self.control;
         if 7 < control.security_level {

@@ -1,11 +1,10 @@
 -- The security control byte, document 01, "Header layout" (IEEE 802.15.4-2011, 7.4.1): level bits 0-2, all eight
 -- accepted, key mode bits 3-4, bits 5-7 not read.
 use Rattle.octets.specs.Words.{ℕ, _+_, _*_, _%_, Bool, List, [], _∷_, ltb}
-use Rattle.octets.specs.{declared.Outcome.Outcome, Bits.bits, Bits.find, Little.number, Order.first, Outcome.accepted}
-use Rattle.octets.specs.{Outcome.refused, Part.ends}
-use Rattle.security_control.specs.{declared.KeyIdentifierMode.KeyIdentifierMode}
-use Rattle.security_control.specs.{declared.SecurityControl.SecurityControl}
-use Rattle.security_control.specs.{declared.SecurityControlRead.SecurityControlRead}
+use Rattle.octets.specs.{declared.Outcome.Outcome, Outcome.accepted, Outcome.refused, Order.first}
+use Rattle.octets.specs.{Bits.bits, Bits.find, Little.number, Part.ends}
+use Rattle.security_control.specs.declared.{KeyIdentifierMode.KeyIdentifierMode, SecurityControl.SecurityControl}
+use Rattle.security_control.specs.declared.{SecurityControlRead.SecurityControlRead}
 use Rattle.security_control.specs.declared.KeyIdentifierMode.the-variants.{None, KeyIndex, KeySource4, KeySource8}
 use Rattle.security_control.specs.declared.SecurityControlRead.the-variants.{Read, Ended}
 

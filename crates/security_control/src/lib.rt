@@ -3,7 +3,8 @@ ghost use Rattle.octets.specs.Words.{_≤_, _≡_};
 ghost use Rattle.octets.specs.Buffer.{after};
 ghost use Rattle.octets.specs.Little.{split};
 ghost use Rattle.octets.specs.Value.{writeValue, valueOutcome};
-ghost use Rattle.security_control.specs.Control.{keyModeOf, keyModeBits, controlOf, controlIn, controlBits, levelTooLarge, readControl, controlOutcome};
+ghost use Rattle.security_control.specs.Control.{keyModeOf, keyModeBits, controlOf, controlIn, controlBits};
+ghost use Rattle.security_control.specs.Control.{levelTooLarge, readControl, controlOutcome};
 use octets::Outcome;
 use octets::ValueWritten;
 use octets::left;
@@ -30,6 +31,7 @@ impl KeyIdentifierMode {
         }
     }
 
+    // The two bits of the mode, as a number.
     pub fn to_bits(self) -> u8
         ensures { λ r. ⌜ r ≡ keyModeBits self ⌝ }
         ensures { λ r. ⌜ r ≤ 3 ⌝ }
@@ -97,6 +99,7 @@ impl SecurityControl {
         self.security_level % 8 + 8 * key_id_mode.to_bits()
     }
 
+    // Reads the byte at a place.
     pub fn read(s: &[u8], at: usize) -> SecurityControlRead
         ensures { λ r. ⌜ r ≡ readControl (now (s .entry)) at ⌝ }
     {
@@ -106,7 +109,7 @@ impl SecurityControl {
         SecurityControlRead::Read(SecurityControl::from_bits(u8_at(s, at)))
     }
 
-    // Refuses a level above 7, then a place without room.
+    // Writes the byte at a place. Refuses a level above 7, then a place without room.
     pub fn write(self, out: &mut [u8], at: usize) -> ValueWritten
         ensures { λ r. ⌜ r ≡ writeValue (levelTooLarge self) (now (out .entry)) at 1 ⌝ }
         ensures { λ r. ⌜ now (out .exit) ≡ after (valueOutcome r) (now (out .entry)) at (split 1 (controlBits self)) ⌝ }

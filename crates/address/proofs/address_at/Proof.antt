@@ -35,5 +35,9 @@ address-at-spec =
     (λ c. search needs) short-pan (λ c κs. search needs) (λ c. search needs) short-number
     (λ c. search needs) extended-pan (λ c κs. search needs) (λ c. search needs) extended-number
     (λ c. rw (c .enum-told .given .1))
-    (λ c. rw (c .before .before .before .enum-told2 .given .1, c .before .before .pan-at .ensures, c .u16-at .ensures, c .before .pan-octets .ensures .0))
-    (λ c. rw (c .before .before .before .enum-told3 .given .1, c .before .before .pan-at2 .ensures, c .u64-at .ensures, c .before .pan-octets2 .ensures .0)))
+    (λ c.
+    let pan = c .before .before in
+    rw (pan .before .enum-told2 .given .1, pan .pan-at .ensures, c .u16-at .ensures, c .before .pan-octets .ensures .0))
+    (λ c.
+    let pan = c .before .before in
+    rw (pan .before .enum-told3 .given .1, pan .pan-at2 .ensures, c .u64-at .ensures, c .before .pan-octets2 .ensures .0)))

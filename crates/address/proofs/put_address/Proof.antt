@@ -44,5 +44,6 @@ extended-stored c =
 pub put-address-spec : {M : Type 1} → statement M
 put-address-spec =
     tie.close
-    (tie.spec (λ c. search needs) (λ c. search needs) absent (λ c. search needs) (λ c. search needs) short-room (λ c. search needs) extended-room
+    (tie.spec (λ c. search needs) (λ c. search needs) absent (λ c. search needs) (λ c. search needs) short-room (λ c. search needs)
+    extended-room
     (λ c. search needs) short-stored (λ c. search needs) extended-stored)

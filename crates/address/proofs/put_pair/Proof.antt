@@ -4,7 +4,7 @@ use mathlib.Core.Path.{_∙_}
 use native.Mathlib.Omega.{arith}
 use borrow.Author.Needs.{needs}
 use Rattle.octets.proofs.Buffer.{laid-join}
-use Rattle.address.proofs.Laws.{pan-length}
+use Rattle.address.proofs.Addresses.{pan-length}
 use Rattle.address.proofs.put_pair.Statement.{statement}
 use Rattle.address.proofs.put_pair.Tie as tie
 

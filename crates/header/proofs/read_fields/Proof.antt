@@ -47,5 +47,6 @@ rest c =
 pub read-fields-spec : {M : Type 1} → statement M
 read-fields-spec =
     tie.close
-    (tie.spec (λ c κs. search needs) (λ c. search needs) destination-ended (λ c κs. search needs) compression (λ c κs. search needs) (λ c. search needs)
+    (tie.spec (λ c κs. search needs) (λ c. search needs) destination-ended (λ c κs. search needs) compression (λ c κs. search needs)
+    (λ c. search needs)
     source-ended (λ c κs. search needs) rest)

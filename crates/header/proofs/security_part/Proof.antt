@@ -21,6 +21,12 @@ pub security-part-spec : {M : Type 1} → statement M
 unfolding securityPart
 security-part-spec =
     tie.close
-    (tie.spec (λ c. rw (not-true (c .before .before .args .on) (c .if1 .taken))) (λ c κs. search needs) (λ c. search needs) (λ c. search needs) fits
-    (λ c. simp (not-false (c .before .before .before .before .before .args .on) (c .before .before .before .if1 .left), sym (c .before .before .read .ensures) ∙ c .enum-told .given .1))
-    (λ c. simp (not-false (c .before .before .before .before .before .before .args .on) (c .before .before .before .before .if1 .left), sym (c .before .before .before .read .ensures) ∙ c .before .security .given .1)))
+    (tie.spec (λ c. rw (not-true (c .before .before .args .on) (c .if1 .taken))) (λ c κs. search needs) (λ c. search needs)
+    (λ c. search needs) fits
+    (λ c.
+    let test = c .before .before .before in
+    simp (not-false (test .before .before .args .on) (test .if1 .left), sym (c .before .before .read .ensures) ∙ c .enum-told .given .1))
+    (λ c.
+    let found = c .before in
+    let test = found .before .before .before in
+    simp (not-false (test .before .before .args .on) (test .if1 .left), sym (found .before .before .read .ensures) ∙ found .security .given .1)))

@@ -36,7 +36,8 @@ bare-extended c =
     let mode : a .mode ≡ 3 = omega (arith, c .match .keys4) in
     rw (own, mode) (refl, omega arith)
 
-neither : (c m : ℕ) → c < 2 → (4 * c + m ≡ 2 → ⊥) → (4 * c + m ≡ 3 → ⊥) → (4 * c + m ≡ 6 → ⊥) → (4 * c + m ≡ 7 → ⊥) → (m ≡ 2 → ⊥) × (m ≡ 3 → ⊥)
+neither : (c m : ℕ) → c < 2 → (4 * c + m ≡ 2 → ⊥) → (4 * c + m ≡ 3 → ⊥) → (4 * c + m ≡ 6 → ⊥) → (4 * c + m ≡ 7 → ⊥) →
+    (m ≡ 2 → ⊥) × (m ≡ 3 → ⊥)
 neither zero m h two three six seven = (λ e. two (omega arith), λ e. three (omega arith))
 neither (suc zero) m h two three six seven = (λ e. six (omega arith), λ e. seven (omega arith))
 neither (suc (suc c)) m h two three six seven = absurd (omega arith)

@@ -22,7 +22,13 @@ index-room : tie.Need-put-requires
 index-room c κs =
     let call = c .before .before .before .before in
     let found = call .before .before .before in
-    omega (arith, ap (λ k. keyLength (modeOfKey k)) (found .key .given .1), source-key (found .key .given .0 .0 .«key_source»), call .put-source .ensures .0, call .put-source .kept .1 .0)
+    omega (
+      arith,
+      ap (λ k. keyLength (modeOfKey k)) (found .key .given .1),
+      source-key (found .key .given .0 .0 .«key_source»),
+      call .put-source .ensures .0,
+      call .put-source .kept .1 .0,
+    )
 
 stored : tie.Need-returns-2
 unfolding keyBytes

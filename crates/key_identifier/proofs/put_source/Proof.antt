@@ -35,5 +35,6 @@ long-stored c =
 pub put-source-spec : {M : Type 1} → statement M
 put-source-spec =
     tie.close
-    (tie.spec (λ c. search needs) (λ c. search needs) absent (λ c. search needs) (λ c. search needs) short-room (λ c. search needs) long-room
+    (tie.spec (λ c. search needs) (λ c. search needs) absent (λ c. search needs) (λ c. search needs) short-room (λ c. search needs)
+    long-room
     (λ c. search needs) short-stored (λ c. search needs) long-stored)

@@ -5,7 +5,7 @@ use native.Mathlib.Omega.{arith}
 use borrow.Author.Needs.{needs}
 use Rattle.octets.proofs.Buffer.{laid-join}
 use Rattle.header.specs.Write.{headerBytes}
-use Rattle.header.proofs.Laws.{fixed-length, addresses-length}
+use Rattle.header.proofs.Writing.{fixed-length, addresses-length}
 use Rattle.header.proofs.Header.put.Statement.{statement}
 use Rattle.header.proofs.Header.put.Tie as tie
 

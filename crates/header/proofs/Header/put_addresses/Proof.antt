@@ -4,7 +4,7 @@ use mathlib.Core.Path.{_∙_}
 use native.Mathlib.Omega.{arith}
 use borrow.Author.Needs.{needs}
 use Rattle.octets.proofs.Buffer.{laid-join}
-use Rattle.address.proofs.Laws.{address-length}
+use Rattle.address.proofs.Addresses.{address-length}
 use Rattle.header.proofs.Header.put_addresses.Statement.{statement}
 use Rattle.header.proofs.Header.put_addresses.Tie as tie
 

@@ -13,7 +13,7 @@ use Rattle.header.specs.declared.HeaderWritten.{HeaderWritten}
 use Rattle.header.specs.declared.HeaderWritten.the-variants.{Written, TooLarge, Full, Compression, MissingCounter}
 use Rattle.header.specs.Write.{writtenOutcome, headerBytes}
 use Rattle.header.proofs.HeaderWritten.{the-type}
-use Rattle.header.proofs.Laws.{written-fits}
+use Rattle.header.proofs.Writing.{written-fits}
 use Rattle.header.proofs.Header.write.Statement.{statement}
 use Rattle.header.proofs.Header.write.Tie as tie
 

@@ -1,5 +1,5 @@
--- `header::Header::write_answer` meets its contract: its tests are the definition's, in their order. Behind each test that does not hold, the
--- tests that are left give what all of them give.
+-- `header::Header::write_answer` meets its contract: its tests are the definition's, in their order. Behind each test that does not hold,
+-- the tests that are left give what all of them give.
 -- Assumes nothing.
 use Prim.Native.Nat.{ℕ}
 use mathlib.Core.Path.{_≡_, sym, _∙_}
@@ -85,5 +85,6 @@ fits c =
 pub write-answer-spec : {M : Type 1} → statement M
 write-answer-spec =
     tie.close
-    (tie.spec (λ c κs. search needs) too-large below-three (λ c κs. search needs) compression (λ c κs. search needs) addresses (λ c κs. search needs)
+    (tie.spec (λ c κs. search needs) too-large below-three (λ c κs. search needs) compression (λ c κs. search needs) addresses
+    (λ c κs. search needs)
     counter (λ c κs. search needs) security fits)

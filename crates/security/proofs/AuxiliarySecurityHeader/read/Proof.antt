@@ -10,7 +10,7 @@ use Rattle.security_control.specs.Control.{controlIn}
 use Rattle.key_identifier.specs.Key.{keyLength}
 use Rattle.security.specs.Security.{controlAt, securityIn}
 use Rattle.security.specs.Answer.{readSecurity}
-use Rattle.security.proofs.Laws.{five-short}
+use Rattle.security.proofs.Security.{five-short}
 use Rattle.security.proofs.AuxiliarySecurityHeader.read.Statement.{statement}
 use Rattle.security.proofs.AuxiliarySecurityHeader.read.Tie as tie
 
@@ -26,7 +26,8 @@ announced : (c : tie.After-key-octets) →
     c .key-octets .result ≡ keyLength (controlAt (now (a .s)) (a .at) .«key_id_mode»)
 announced c =
     c .key-octets .ensures .0
-    ∙ ap (λ (k : SecurityControl). keyLength (k .«key_id_mode»)) (c .before .from-bits .ensures ∙ ap controlIn (c .before .before .u8-at .ensures))
+    ∙ ap (λ (k : SecurityControl). keyLength (k .«key_id_mode»))
+    (c .before .from-bits .ensures ∙ ap controlIn (c .before .before .u8-at .ensures))
 
 cut : tie.Need-returns-2
 unfolding readSecurity

@@ -48,5 +48,6 @@ written c =
 pub write-spec : {M : Type 1} → statement M
 write-spec =
     tie.close
-    (tie.spec too-large (λ c. search needs) (λ c. search needs) missing-counter (λ c κs. search needs) (λ c κs. search needs) (λ c. search needs) full
+    (tie.spec too-large (λ c. search needs) (λ c. search needs) missing-counter (λ c κs. search needs) (λ c κs. search needs)
+    (λ c. search needs) full
     (λ c κs. search needs) (λ c. search needs) written)

@@ -13,4 +13,6 @@ read-spec =
     (tie.spec (λ c κs. search needs)
     (λ c. simp (fewer (c .before .left .ensures) (c .if1 .taken)))
     (λ c κs. search needs) (λ c κs. search needs)
-    (λ c. simp (enough (c .before .before .before .left .ensures) (c .before .before .if1 .left), c .from-bits .ensures, c .before .u8-at .ensures)))
+    (λ c.
+    let test = c .before .before in
+    simp (enough (test .before .left .ensures) (test .if1 .left), c .from-bits .ensures, c .before .u8-at .ensures)))

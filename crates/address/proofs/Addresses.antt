@@ -9,7 +9,7 @@ use mathlib.Core.Path.{_≡_, refl, sym, ap}
 use lib.ListN.{length, take, drop, length-append}
 use lib.Seq.{take-add, drop-drop}
 use Rattle.octets.specs.Little.{split, number, Bytes}
-use Rattle.octets.proofs.Little.{split-length, split-bytes, bytes-append, number-back, number-again, number-more, number-small}
+use Rattle.octets.proofs.Little.{split-length, number-back, number-again, number-more, number-small}
 use Rattle.frame_control.specs.declared.AddressMode.{AddressMode}
 use Rattle.frame_control.specs.declared.AddressMode.the-variants as Mode
 use Rattle.identifiers.specs.declared.PanId.{PanId}
@@ -18,7 +18,8 @@ use Rattle.address.specs.declared.Address.the-variants.{Short, Extended}
 use Rattle.address.specs.declared.OptionalAddress.{OptionalAddress}
 use Rattle.address.specs.declared.OptionalAddress.the-variants.{Absent, Present}
 use Rattle.address.specs.Address.{modeOf, sharedPan}
-use Rattle.address.specs.Layout.{panLength, modeLength, addressLength, panIn, addressIn, panBytes, addressBytes, sharing, SmallPan, SmallAddress}
+use Rattle.address.specs.Layout.{panLength, modeLength, addressLength, panIn, addressIn, panBytes, addressBytes, sharing, SmallPan}
+use Rattle.address.specs.Layout.{SmallAddress}
 
 pub pan-length : (own : Bool) (p : PanId) → length (panBytes own p) ≡ panLength own
 pan-length true p = split-length 2 (p .0)
@@ -29,16 +30,6 @@ unfolding addressBytes
 address-length own Absent = refl
 address-length own (Present (Short p a)) = simp (length-append, pan-length, split-length)
 address-length own (Present (Extended p a)) = simp (length-append, pan-length, split-length)
-
-pan-bytes : (own : Bool) (p : PanId) → Bytes (panBytes own p)
-pan-bytes true p = split-bytes 2 (p .0)
-pan-bytes false p = tt
-
-pub address-bytes : (own : Bool) (a : OptionalAddress) → Bytes (addressBytes own a)
-unfolding addressBytes
-address-bytes own Absent = tt
-address-bytes own (Present (Short p a)) = bytes-append (panBytes own p) (split 2 (a .0)) (pan-bytes own p) (split-bytes 2 (a .0))
-address-bytes own (Present (Extended p a)) = bytes-append (panBytes own p) (split 8 (a .0)) (pan-bytes own p) (split-bytes 8 (a .0))
 
 -- a PAN id and a number of n bytes behind it, in a longer list
 abbrev pair : Bool → PanId → ℕ → ℕ → List ℕ
@@ -59,7 +50,8 @@ behind-back own p before after at n v e h =
     (number-back (before ++ panBytes own p) (at + panLength own) n v after k h)
 
 -- what was written is read as it was, but for a PAN id that was left out
-pub address-back : (own : Bool) (shared : PanId) (a : OptionalAddress) (before after : List ℕ) (at : ℕ) → length before ≡ at → SmallAddress a →
+pub address-back : (own : Bool) (shared : PanId) (a : OptionalAddress) (before after : List ℕ) (at : ℕ) → length before ≡ at →
+    SmallAddress a →
     addressIn own shared (modeOf a) (before ++ (addressBytes own a ++ after)) at ≡ sharing own shared a
 unfolding addressIn addressBytes
 address-back own shared Absent before after at e h = refl
@@ -88,7 +80,8 @@ address-again own shared Mode.Short s at b h = pair-again own shared 2 s at b h
 address-again own shared Mode.Extended s at b h = pair-again own shared 8 s at b h
 
 -- bytes behind alter nothing
-pan-more : (own : Bool) (shared : PanId) (s t : List ℕ) (at : ℕ) → at + panLength own ≤ length s → panIn own shared (s ++ t) at ≡ panIn own shared s at
+pan-more : (own : Bool) (shared : PanId) (s t : List ℕ) (at : ℕ) → at + panLength own ≤ length s →
+    panIn own shared (s ++ t) at ≡ panIn own shared s at
 pan-more true shared s t at h = ap pan (number-more s t at 2 h)
 pan-more false shared s t at h = refl
 
@@ -96,15 +89,19 @@ pub address-more : (own : Bool) (shared : PanId) (m : AddressMode) (s t : List �
     addressIn own shared m (s ++ t) at ≡ addressIn own shared m s at
 unfolding addressIn
 address-more own shared Mode.None s t at h = refl
-address-more own shared Mode.Short s t at h = rw (pan-more own shared s t at (omega arith), number-more s t (at + panLength own) 2 (omega arith))
-address-more own shared Mode.Extended s t at h = rw (pan-more own shared s t at (omega arith), number-more s t (at + panLength own) 8 (omega arith))
+address-more own shared Mode.Short s t at h =
+    rw (pan-more own shared s t at (omega arith), number-more s t (at + panLength own) 2 (omega arith))
+address-more own shared Mode.Extended s t at h =
+    rw (pan-more own shared s t at (omega arith), number-more s t (at + panLength own) 8 (omega arith))
 
 -- what was read fits its width, has the mode that it was read by, and its PAN id is the shared one where that was left out
-pan-small : (own : Bool) (shared : PanId) (s : List ℕ) (at : ℕ) → Bytes s → SmallPan shared → at + panLength own ≤ length s → SmallPan (panIn own shared s at)
+pan-small : (own : Bool) (shared : PanId) (s : List ℕ) (at : ℕ) → Bytes s → SmallPan shared → at + panLength own ≤ length s →
+    SmallPan (panIn own shared s at)
 pan-small true shared s at b p h = number-small s at 2 b h
 pan-small false shared s at b p h = p
 
-pub address-small : (own : Bool) (shared : PanId) (m : AddressMode) (s : List ℕ) (at : ℕ) → Bytes s → SmallPan shared → at + modeLength own m ≤ length s →
+pub address-small : (own : Bool) (shared : PanId) (m : AddressMode) (s : List ℕ) (at : ℕ) → Bytes s → SmallPan shared →
+    at + modeLength own m ≤ length s →
     SmallAddress (addressIn own shared m s at)
 unfolding addressIn
 address-small own shared Mode.None s at b p h = tt

@@ -1,4 +1,4 @@
--- Laws of the header's lengths, and of an accepting writer.
+-- Laws of a header's bytes, which are as many as its record tells, and of an accepting writer.
 -- Assumes nothing.
 use Prim.Native.Nat.{ℕ, _+_, _≤_}
 use native.Mathlib.Omega.{arith}
@@ -8,11 +8,11 @@ use borrow.Author.Tests.{ltb-false}
 use lib.Dec.{eqb}
 use lib.ListN.{length, length-append}
 use Rattle.octets.proofs.Little.{split-length}
-use Rattle.octets.proofs.Order.{none-holds}
+use Rattle.octets.proofs.Order.{Fail, none-holds}
 use Rattle.address.specs.Layout.{addressLength}
-use Rattle.address.proofs.Laws.{address-length}
+use Rattle.address.proofs.Addresses.{address-length}
 use Rattle.security.specs.declared.OptionalCounter.{OptionalCounter}
-use Rattle.security.proofs.Laws.{optional-length}
+use Rattle.security.proofs.Security.{optional-length}
 use Rattle.header.specs.declared.Header.{Header}
 use Rattle.header.specs.declared.HeaderWritten.{HeaderWritten}
 use Rattle.header.specs.declared.HeaderWritten.the-variants.{Written}
@@ -22,7 +22,8 @@ use Rattle.header.specs.Write.{writeTests, writeHeader, writtenOutcome, 
 pub fixed-length : (h : Header) → length (fixedBytes h) ≡ 3
 fixed-length h = simp (length-append, split-length)
 
-pub addresses-length : (h : Header) → length (addressesBytes h) ≡ addressLength true (h .destination) + addressLength (sourceOwn h) (h .source)
+pub addresses-length : (h : Header) →
+    length (addressesBytes h) ≡ addressLength true (h .destination) + addressLength (sourceOwn h) (h .source)
 addresses-length h = simp (length-append, address-length)
 
 pub header-length : (h : Header) (counter : ℕ) → length (headerBytes h counter) ≡ headerLength h
@@ -32,12 +33,22 @@ header-length h counter = simp (length-append, split-length, address-length, opt
 abbrev accepting : HeaderWritten → Bool
 accepting r = eqb (writtenOutcome r .number) 0
 
-same : (m n : ℕ) → Written m ≡ Written n → m ≡ n
-same m n e = cc
+pub same-written : (m n : ℕ) → Written m ≡ Written n → m ≡ n
+same-written m n e = cc
 
--- an accepted header has room, and its length is the record's
-pub written-fits : (h : Header) (counter : OptionalCounter) (room n : ℕ) → writeHeader h counter room ≡ Written n → (headerLength h ≤ room) × (headerLength h ≡ n)
+-- where writing is accepted no test holds, and its length is the record's
+pub written-passes : (h : Header) (counter : OptionalCounter) (room n : ℕ) → writeHeader h counter room ≡ Written n →
+    Fail (writeTests h counter room) × (headerLength h ≡ n)
 unfolding writeHeader
+written-passes h counter room n e =
+    let q =
+    none-holds accepting (writeTests h counter room) (Written (headerLength h))
+    (refl, (refl, (refl, (refl, (refl, (refl, tt)))))) (ap accepting e) in
+    (q .0, same-written (headerLength h) n (sym (q .1) ∙ e))
+
+-- so an accepted header has room
+pub written-fits : (h : Header) (counter : OptionalCounter) (room n : ℕ) → writeHeader h counter room ≡ Written n →
+    (headerLength h ≤ room) × (headerLength h ≡ n)
 written-fits h counter room n e =
-    let q = none-holds accepting (writeTests h counter room) (Written (headerLength h)) (refl, (refl, (refl, (refl, (refl, (refl, tt)))))) (ap accepting e) in
-    (ltb-false room (headerLength h) (q .0 .1 .1 .1 .1 .1 .0), same (headerLength h) n (sym (q .1) ∙ e))
+    let q = written-passes h counter room n e in
+    (ltb-false room (headerLength h) (q .0 .1 .1 .1 .1 .1 .0), q .1)

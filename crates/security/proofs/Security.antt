@@ -13,7 +13,8 @@ use lib.Seq.{take-add, drop-drop, getD-drop}
 use Rattle.octets.specs.Bits.{clear, clearAt}
 use Rattle.octets.specs.Little.{split, number, Bytes}
 use Rattle.octets.specs.Part.{ends}
-use Rattle.octets.proofs.Little.{split-length, split-bytes, bytes-append, bytes-drop, number-one, number-back, number-again, number-more, number-small}
+use Rattle.octets.proofs.Little.{split-length, split-bytes, bytes-append, bytes-drop, number-one, number-back, number-again, number-more}
+use Rattle.octets.proofs.Little.{number-small}
 use Rattle.security_control.specs.declared.KeyIdentifierMode.{KeyIdentifierMode}
 use Rattle.security_control.specs.declared.SecurityControl.{SecurityControl}
 use Rattle.security_control.specs.Control.{controlOf, controlIn}
@@ -24,7 +25,8 @@ use Rattle.security.specs.declared.OptionalSecurityHeader.the-variants.{
 use Rattle.security.specs.declared.SecurityHeaderRead.the-variants.{Read}
 use Rattle.security.specs.Optional.{optionalLength, optionalBytes}
 use Rattle.key_identifier.specs.Key.{modeOfKey, keyLength, keyIn, keyBytes}
-use Rattle.security.specs.Security.{securityOf, controlAt, lengthIn, securityIn, levelOf, securityLength, writtenControl, securityBytes, SmallSecurity}
+use Rattle.security.specs.Security.{securityOf, controlAt, lengthIn, securityIn, levelOf, securityLength, writtenControl}
+use Rattle.security.specs.Security.{securityBytes, SmallSecurity}
 use Rattle.security.specs.Answer.{readSecurity}
 use Rattle.security.specs.RoundTrip.{told, cleared, rewritten}
 use Rattle.key_identifier.proofs.Keys.{key-length, key-bytes, key-back, key-again, key-more, key-small, key-mode}
@@ -65,8 +67,10 @@ module _ (h : AuxiliarySecurityHeader) (counter : ℕ) (before after : List ℕ)
   control-in : number whole at 1 ≡ writtenControl h
   unfolding securityBytes
   control-in =
-      rw (append-assoc (split 1 (writtenControl h)) (split 4 counter ++ keyBytes (h .«key_identifier»)) after)
-      (number-back before at 1 (writtenControl h) ((split 4 counter ++ keyBytes (h .«key_identifier»)) ++ after) e (omega (arith, control-small (controlOf (levelOf h) (modeOfKey (h .«key_identifier»))))))
+      let rest : List ℕ = split 4 counter ++ keyBytes (h .«key_identifier») in
+      let small = control-small (controlOf (levelOf h) (modeOfKey (h .«key_identifier»))) in
+      rw (append-assoc (split 1 (writtenControl h)) rest after)
+      (number-back before at 1 (writtenControl h) (rest ++ after) e (omega (arith, small)))
 
   control-read : levelOf h < 8 → controlAt whole at ≡ controlOf (levelOf h) (modeOfKey (h .«key_identifier»))
   control-read l = ap controlIn control-in ∙ control-back (controlOf (levelOf h) (modeOfKey (h .«key_identifier»))) l
@@ -74,11 +78,13 @@ module _ (h : AuxiliarySecurityHeader) (counter : ℕ) (before after : List ℕ)
   counter-in : counter < 256 ^ 4 → number whole (at + 1) 4 ≡ counter
   counter-in l =
       ap (λ (s : List ℕ). number s (at + 1) 4) behind-control
-      ∙ number-back (before ++ split 1 (writtenControl h)) (at + 1) 4 counter (keyBytes (h .«key_identifier») ++ after) (simp (length-append, split-length, e)) l
+      ∙ number-back (before ++ split 1 (writtenControl h)) (at + 1) 4 counter (keyBytes (h .«key_identifier») ++ after)
+      (simp (length-append, split-length, e)) l
 
   key-read : SmallSecurity h → keyIn (controlAt whole at .«key_id_mode») whole (at + 5) ≡ h .«key_identifier»
   key-read l =
-      let k : length ((before ++ split 1 (writtenControl h)) ++ split 4 counter) ≡ at + 5 = simp (length-append, split-length, e) (omega arith) in
+      let k : length ((before ++ split 1 (writtenControl h)) ++ split 4 counter) ≡ at + 5 =
+      simp (length-append, split-length, e) (omega arith) in
       ap (λ (c : SecurityControl). keyIn (c .«key_id_mode») whole (at + 5)) (control-read (l .0))
       ∙ ap (λ (s : List ℕ). keyIn (modeOfKey (h .«key_identifier»)) s (at + 5)) behind-counter
       ∙ key-back (h .«key_identifier») ((before ++ split 1 (writtenControl h)) ++ split 4 counter) after (at + 5) k (l .1)
@@ -116,13 +122,20 @@ module _ (s : List ℕ) (at : ℕ) (b : Bytes s) (h : at + lengthIn s at ≤ len
   control-written : writtenControl (securityIn s at) ≡ clear 5 3 (getD (drop at s) 0 0)
   unfolding securityIn
   control-written =
-      let first : number s at 1 ≡ getD (drop at s) 0 0 = number-one s at ∙ sym (getD-drop at s 0 0 ∙ ap (λ (i : ℕ). getD s i 0) (add-zero at)) in
+      let first : number s at 1 ≡ getD (drop at s) 0 0 =
+      number-one s at ∙ sym (getD-drop at s 0 0 ∙ ap (λ (i : ℕ). getD s i 0) (add-zero at)) in
       rw (key-mode mode s (at + 5)) (control-again (number s at 1) byte ∙ ap (clear 5 3) first)
 
   pub security-again : rewritten (securityIn s at) ≡ cleared s at
   unfolding securityBytes securityIn
   security-again =
-      rw (control-written, number-again s (at + 1) 4 b (omega arith), key-again mode s (at + 5) b (omega arith), ← drop-drop 1 at s, ← drop-drop 5 at s)
+      rw (
+        control-written,
+        number-again s (at + 1) 4 b (omega arith),
+        key-again mode s (at + 5) b (omega arith),
+        ← drop-drop 1 at s,
+        ← drop-drop 5 at s,
+      )
       (spliced (drop at s) (keyLength mode) (bytes-drop at s b) (rw length-drop (omega arith)))
 
   pub security-small : SmallSecurity (securityIn s at)
@@ -153,5 +166,7 @@ module _ (s t : List ℕ) (at : ℕ) (h : at + lengthIn s at ≤ length s) where
   pub security-more : securityIn (s ++ t) at ≡ securityIn s at
   unfolding securityIn
   security-more =
-      let key = ap (λ (c : SecurityControl). keyIn (c .«key_id_mode») (s ++ t) (at + 5)) control-more ∙ key-more (controlAt s at .«key_id_mode») s t (at + 5) (omega arith) in
+      let key =
+      ap (λ (c : SecurityControl). keyIn (c .«key_id_mode») (s ++ t) (at + 5)) control-more
+      ∙ key-more (controlAt s at .«key_id_mode») s t (at + 5) (omega arith) in
       λ i. securityOf (control-more i) (number-more s t (at + 1) 4 (omega arith) i) (key i)
