@@ -25,7 +25,7 @@ use Rattle.header.specs.declared.HeaderWritten.the-variants as Header
 use Rattle.header.specs.Record.{headerLength}
 use Rattle.header.specs.Read.{readHeader}
 use Rattle.header.specs.Write.{writeHeader, writtenOutcome, headerBytes}
-use Rattle.header.proofs.Laws.{header-length, written-fits}
+use Rattle.header.proofs.Writing.{header-length, written-fits}
 use Rattle.header_facts.specs.RoundTrip.{cleared, rewritten}
 use Rattle.header_facts.proofs.RoundTrip.{round-trip}
 use Rattle.octets.specs.declared.ValueWritten.{ValueWritten}

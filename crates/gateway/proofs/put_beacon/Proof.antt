@@ -1,14 +1,14 @@
 -- `gateway::put_beacon` meets its contract: the bytes read are copied, and the listed bits are cleared in the copy.
 -- Assumes nothing.
 use Prim.Native.Nat.{_+_, _%_}
-use mathlib.Core.Path.{sym, _∙_}
+use mathlib.Core.Path.{sym, ap, _∙_}
 use native.Mathlib.Omega.{arith}
 use borrow.Author.Needs.{needs}
 use denote.Ref.{now}
 use lib.Seq.{length-take-le}
 use Rattle.octets.specs.Bits.{clearAt}
 use Rattle.octets.proofs.Copying.{copied-front}
-use Rattle.time_slots.specs.TimeSlots.{timeSlotsLengthIn}
+use Rattle.time_slots.specs.TimeSlots.{slotCountIn, timeSlotsLengthIn}
 use Rattle.gateway.proofs.BeaconRewriting.{BeaconAccepted, beacon-accepted, listedCleared}
 use Rattle.gateway.proofs.put_beacon.Statement.{statement}
 use Rattle.gateway.proofs.put_beacon.Tie as tie
@@ -51,11 +51,12 @@ returns c =
     let copying = byte .before .before .before in
     let a = copying .before .before .before .before .before .args in
     let q = still copying in
-    let front = copying .copy .ensures .1 ∙ copied-front (now (a .content)) (now (a .out)) (a .n) (q .within) (q .room) in
+    let s = now (a .content) in
     second .clear-pending .ensures
     ∙ (λ i. clearAt (2 + place .time-slots-length .ensures .0 i) 3 1
     (clearAt (2 + place .time-slots-length .ensures .0 i) 7 1 (first .clear-slots .ensures i)))
-    ∙ (λ i. listedCleared (byte .u8-at .ensures i % 8) (2 + timeSlotsLengthIn (now (a .content)) 2) (front i))
+    ∙ (λ i. listedCleared (byte .u8-at .ensures i % 8) (2 + timeSlotsLengthIn s 2) (copying .copy .ensures .1 i))
+    ∙ ap (listedCleared (slotCountIn s 2) (2 + timeSlotsLengthIn s 2)) (copied-front s (now (a .out)) (a .n) (q .within) (q .room))
     ∙ q .into
 
 pub put-beacon-spec : {M : Type 1} → statement M

@@ -1,10 +1,11 @@
 -- `gateway::put_header` meets its contract: the bytes read are copied, and the listed bits are cleared in the copy.
 -- Assumes nothing.
-use mathlib.Core.Path.{sym, _∙_}
+use mathlib.Core.Path.{sym, ap, _∙_}
 use native.Mathlib.Omega.{arith}
 use borrow.Author.Needs.{needs}
 use denote.Ref.{now}
 use lib.Seq.{length-take-le}
+use Rattle.octets.specs.Little.{number}
 use Rattle.octets.proofs.Copying.{copied-front}
 use Rattle.octets.proofs.Little.{bytes-known}
 use Rattle.header_facts.specs.RoundTrip.{clearedBy}
@@ -40,8 +41,10 @@ returns c =
     let copying = word .before .before .before in
     let a = copying .before .before .before .before .before .args in
     let q = still copying in
-    let front = copying .copy .ensures .1 ∙ copied-front (now (a .frame)) (now (a .out)) (a .n) (q .within) (q .room) in
-    clearing .clear-header .ensures ∙ (λ i. clearedBy (word .u16-at .ensures i) (front i)) ∙ q .into
+    clearing .clear-header .ensures
+    ∙ (λ i. clearedBy (word .u16-at .ensures i) (copying .copy .ensures .1 i))
+    ∙ ap (clearedBy (number (now (a .frame)) 0 2)) (copied-front (now (a .frame)) (now (a .out)) (a .n) (q .within) (q .room))
+    ∙ q .into
 
 pub put-header-spec : {M : Type 1} → statement M
 put-header-spec =

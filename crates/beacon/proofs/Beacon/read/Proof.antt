@@ -42,7 +42,8 @@ slots c =
     let there = time-slots-read _ _ (ap (λ (r : TimeSlotsRead). r .outcome .number) (sym (call .ensures)) ∙ c .if2 .left) in
     (call .ensures ∙ there .0, there .0, omega (arith, there .1, demand-enough (slotCountIn (a .s .now) (a .at + 2))))
 
-pending : (c : tie.Else3) → let a = c .before .before .before .before .before .before .before .before .before .before .before .args in
+pending : (c : tie.Else3) → let two = c .before .before .before .before in
+    let a = two .before .before .before .before .before .before .before .args in
     let place = pendingPlace (a .s .now) (a .at) in
     let part : PendingRead =
     record { outcome = accepted (pendingLengthIn (a .s .now) place); «pending_address» = pendingIn (a .s .now) place } in
