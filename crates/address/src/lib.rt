@@ -64,6 +64,7 @@ impl Address {
 }
 
 impl OptionalAddress {
+    // The mode that announces it, none where it is absent.
     pub fn mode(self) -> AddressMode
         ensures { λ r. ⌜ r ≡ modeOf self ⌝ }
     {

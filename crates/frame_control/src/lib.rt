@@ -92,6 +92,7 @@ impl FrameVersionRead {
 }
 
 impl FrameVersion {
+    // The whole byte is looked at: each number above 2 is refused.
     pub fn from_bits(bits: u8) -> FrameVersionRead
         ensures { λ r. ⌜ r ≡ versionOf bits ⌝ }
     {
@@ -139,6 +140,7 @@ impl AddressModeRead {
 }
 
 impl AddressMode {
+    // The whole byte is looked at: 1 is refused, and each number above 3.
     pub fn from_bits(bits: u8) -> AddressModeRead
         ensures { λ r. ⌜ r ≡ modeOf bits ⌝ }
     {
@@ -204,6 +206,7 @@ impl FrameControlRead {
 }
 
 impl FrameControl {
+    // What the two bytes say, as one number; bit 7 is not looked at.
     pub fn from_bits(bits: u16) -> FrameControlRead
         ensures { λ r. ⌜ r ≡ controlIn bits ⌝ }
     {

@@ -9,7 +9,8 @@ use Rattle.frame_control.specs.Control.{controlIn, control?}
 use Rattle.identifiers.specs.PanId.{pan}
 use Rattle.address.specs.declared.{OptionalAddress.OptionalAddress}
 use Rattle.address.specs.{Address.sharedPan, Layout.modeLength, Layout.addressIn}
-use Rattle.security.specs.declared.{OptionalSecurityHeader.OptionalSecurityHeader, SecurityHeaderRead.SecurityHeaderRead}
+use Rattle.security.specs.declared.{OptionalSecurityHeader.OptionalSecurityHeader}
+use Rattle.security.specs.declared.{SecurityHeaderRead.SecurityHeaderRead}
 use Rattle.security.specs.declared.OptionalSecurityHeader.the-variants.{Absent, Present}
 use Rattle.security.specs.Answer.{readSecurity}
 use Rattle.header.specs.declared.{HeaderRefusal.HeaderRefusal, HeaderRead.HeaderRead, SecurityPart.SecurityPart}

@@ -1,6 +1,7 @@
 -- What may be absent: a header's security part, and the counter that a writer is handed.
 use Rattle.octets.specs.Words.{ℕ, Bool, true, false, List, [], ltb}
-use Rattle.security.specs.declared.{OptionalCounter.OptionalCounter, OptionalSecurityHeader.OptionalSecurityHeader}
+use Rattle.security.specs.declared.{OptionalCounter.OptionalCounter}
+use Rattle.security.specs.declared.{OptionalSecurityHeader.OptionalSecurityHeader}
 use Rattle.security.specs.Security.{levelOf, securityLength, securityBytes}
 use Rattle.security.specs.declared.OptionalSecurityHeader.the-variants.{Absent, Present}
 

@@ -11,8 +11,9 @@ use Rattle.address.proofs.put_pair.Tie as tie
 returns : tie.Need-returns
 returns c =
     let second = c .before .before .put in
-    let first = c .before .before .before .before .before .before .put-pan in
-    let a = c .before .before .before .before .before .before .before .before .before .args in (
+    let call = c .before .before .before .before .before .before in
+    let first = call .put-pan in
+    let a = call .before .before .before .args in (
       omega (arith, first .ensures .0, second .ensures .0),
       second .ensures .1 ∙ rw (first .ensures .1) (laid-join _ _ _ _ _ _ (pan-length (a .own) (a .«pan-id»)) (first .ensures .0)),
     )

@@ -25,8 +25,10 @@ security-part-spec =
     (λ c. search needs) fits
     (λ c.
     let test = c .before .before .before in
-    simp (not-false (test .before .before .args .on) (test .if1 .left), sym (c .before .before .read .ensures) ∙ c .enum-told .given .1))
+    let answer = sym (c .before .before .read .ensures) ∙ c .enum-told .given .1 in
+    simp (not-false (test .before .before .args .on) (test .if1 .left), answer))
     (λ c.
     let found = c .before in
     let test = found .before .before .before in
-    simp (not-false (test .before .before .args .on) (test .if1 .left), sym (found .before .before .read .ensures) ∙ found .security .given .1)))
+    let answer = sym (found .before .before .read .ensures) ∙ found .security .given .1 in
+    simp (not-false (test .before .before .args .on) (test .if1 .left), answer)))

@@ -13,9 +13,11 @@ returns : tie.Need-returns
 unfolding headerBytes
 returns c =
     let security = c .before .before .put in
-    let addresses = c .before .before .before .before .before .before .put-addresses in
-    let fixed = c .before .before .before .before .before .before .before .before .before .before .put-fixed in
-    let h = c .before .before .before .before .before .before .before .before .before .before .before .before .before .args .self in
+    let second = c .before .before .before .before .before .before in
+    let addresses = second .put-addresses in
+    let first = second .before .before .before .before in
+    let fixed = first .put-fixed in
+    let h = first .before .before .before .args .self in
     security .ensures .1
     ∙ rw (addresses .ensures .1, fixed .ensures)
     (laid-join _ 3 _ _ _ _ (addresses-length h) (addresses .ensures .0 ∙ omega arith) ∙ laid-join _ 0 3 3 _ _ (fixed-length h) refl)

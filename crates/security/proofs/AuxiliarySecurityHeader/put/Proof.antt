@@ -13,11 +13,12 @@ returns : tie.Need-returns
 unfolding securityBytes
 returns c =
     let key = c .before .before .put-key in
-    let counter = c .before .before .before .before .before .before .put2 in
-    let third = c .before .before .before .before .before .before .before .before .before .before in
-    let control = third .put in (
+    let second = c .before .before .before .before .before .before in
+    let counter = second .put2 in
+    let first = second .before .before .before .before in
+    let control = first .put in (
       omega (arith, key .ensures .0, counter .ensures .0, control .ensures .0),
-      key .ensures .1 ∙ rw (counter .ensures .1, control .ensures .1, third .before .before .written-control .ensures .0)
+      key .ensures .1 ∙ rw (counter .ensures .1, control .ensures .1, first .before .before .written-control .ensures .0)
           (laid-join _ _ _ 4 _ _ (split-length 4 _) (counter .ensures .0) ∙ laid-join _ _ _ 1 _ _ (split-length 1 _) (control .ensures .0)),
     )
 
