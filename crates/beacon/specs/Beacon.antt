@@ -52,7 +52,10 @@ readBeacon s at =
 
 -- the bytes, and how many they are
 unfoldable pub beaconBytes : Beacon → List ℕ
-beaconBytes x = superframeBytes (x .«superframe_spec») ++ (timeSlotsBytes (x .«guaranteed_time_slot_info») ++ pendingBytes (x .«pending_address»))
+beaconBytes x =
+    superframeBytes (x .«superframe_spec»)
+    ++ (timeSlotsBytes (x .«guaranteed_time_slot_info»)
+    ++ pendingBytes (x .«pending_address»))
 
 abbrev pub beaconSize : Beacon → ℕ
 beaconSize x = 2 + timeSlotsSize (x .«guaranteed_time_slot_info») + pendingSize (x .«pending_address»)
@@ -60,7 +63,9 @@ beaconSize x = 2 + timeSlotsSize (x .«guaranteed_time_slot_info») + pendingSiz
 -- refusal 8: a part with a number too large
 unfoldable pub beaconTooLarge : Beacon → Bool
 beaconTooLarge x =
-    superframeTooLarge (x .«superframe_spec») || timeSlotsTooLarge (x .«guaranteed_time_slot_info») || pendingTooLarge (x .«pending_address»)
+    superframeTooLarge (x .«superframe_spec»)
+    || timeSlotsTooLarge (x .«guaranteed_time_slot_info»)
+    || pendingTooLarge (x .«pending_address»)
 
 unfoldable pub writeBeacon : Beacon → List ℕ → ℕ → ValueWritten
 writeBeacon x out at = writeValue (beaconTooLarge x) out at (beaconSize x)

@@ -2,7 +2,8 @@
 ghost use Rattle.octets.specs.Words.{_+_, _-_, _≤_, false, _≡_, length};
 ghost use Rattle.octets.specs.Buffer.{laid, after};
 ghost use Rattle.octets.specs.Value.{valueOutcome};
-ghost use Rattle.beacon.specs.Beacon.{beaconOf, emptyBeacon, beaconRefused, readBeacon, beaconBytes, beaconSize, beaconTooLarge, writeBeacon};
+ghost use Rattle.beacon.specs.Beacon.{beaconOf, emptyBeacon, beaconRefused, readBeacon, beaconBytes, beaconSize};
+ghost use Rattle.beacon.specs.Beacon.{beaconTooLarge, writeBeacon};
 use octets::Outcome;
 use octets::ValueWritten;
 use octets::left;
@@ -13,6 +14,7 @@ use superframe::SuperframeSpecification;
 use time_slots::GuaranteedTimeSlotInformation;
 use time_slots::TimeSlotsRead;
 
+// The three parts.
 pub struct Beacon {
     pub superframe_spec: SuperframeSpecification,
     pub guaranteed_time_slot_info: GuaranteedTimeSlotInformation,
@@ -27,7 +29,8 @@ pub struct BeaconRead {
 
 // The beacon of the parts that were read.
 fn joined(superframe: SuperframeRead, slots: TimeSlotsRead, pending: PendingRead) -> Beacon
-    ensures { λ r. ⌜ r ≡ beaconOf (superframe .«superframe_spec») (slots .«guaranteed_time_slot_info») (pending .«pending_address») ⌝ }
+    ensures { λ r. ⌜ r ≡ beaconOf (superframe .«superframe_spec») (slots .«guaranteed_time_slot_info»)
+        (pending .«pending_address») ⌝ }
 {
     let superframe_spec = superframe.superframe_spec;
     let guaranteed_time_slot_info = slots.guaranteed_time_slot_info;
@@ -45,10 +48,7 @@ impl BeaconRead {
     {
         let beacon = Beacon::new();
         BeaconRead {
-            outcome: Outcome {
-                number: 1,
-                length: 0,
-            },
+            outcome: Outcome::refused(1),
             beacon,
         }
     }
@@ -69,6 +69,7 @@ impl Beacon {
         }
     }
 
+    // Reads it at a place, part by part: refusal 1 where its bytes are not all there.
     pub fn read(s: &[u8], at: usize) -> BeaconRead
         ensures { λ r. ⌜ r ≡ readBeacon (now (s .entry)) at ⌝ }
     {
@@ -87,7 +88,7 @@ impl Beacon {
         let length = 2 + slots.outcome.length + pending.outcome.length;
         let beacon = joined(superframe, slots, pending);
         BeaconRead {
-            outcome: Outcome { number: 0, length },
+            outcome: Outcome::accepted(length),
             beacon,
         }
     }
@@ -134,6 +135,7 @@ impl Beacon {
         pending.put(out, next)
     }
 
+    // Writes it at a place; refused, out keeps every byte.
     pub fn write(self, out: &mut [u8], at: usize) -> ValueWritten
         ensures { λ r. ⌜ r ≡ writeBeacon self (now (out .entry)) at ⌝ }
         ensures { λ r. ⌜ now (out .exit) ≡ after (valueOutcome r) (now (out .entry)) at (beaconBytes self) ⌝ }

@@ -17,22 +17,29 @@ use Rattle.octets.proofs.Little.{bytes-append}
 use Rattle.octets.proofs.Cases.{cases, holds?}
 use Rattle.superframe.specs.Superframe.{superframeIn, readSuperframe, superframeBytes}
 use Rattle.superframe.proofs.Superframe.{superframe-length, superframe-read}
-use Rattle.time_slots.specs.TimeSlots.{slotsLength, slotsDemand, slotCountIn, timeSlotsIn, timeSlotsLengthIn, readTimeSlots, timeSlotsBytes, timeSlotsSize}
+use Rattle.time_slots.specs.TimeSlots.{slotsLength, slotsDemand, slotCountIn, timeSlotsIn, timeSlotsLengthIn, readTimeSlots, timeSlotsBytes}
+use Rattle.time_slots.specs.TimeSlots.{timeSlotsSize}
 use Rattle.time_slots.proofs.TimeSlots.{demand-enough, time-slots-read}
 use Rattle.pending.specs.Pending.{shortCountIn, extendedCountIn, pendingIn, pendingLengthIn, readPending, pendingBytes}
 use Rattle.pending.proofs.Pending.{pending-read}
 use Rattle.beacon.specs.declared.Beacon.{Beacon}
 use Rattle.beacon.specs.declared.BeaconRead.{BeaconRead}
-use Rattle.beacon.specs.Beacon.{pendingPlace, beaconOf, beaconIn, beaconLengthIn, beaconRefused, readBeacon, beaconBytes, beaconSize, beaconTooLarge, writeBeacon}
+use Rattle.beacon.specs.Beacon.{pendingPlace, beaconOf, beaconIn, beaconLengthIn, beaconRefused, readBeacon, beaconBytes, beaconSize}
+use Rattle.beacon.specs.Beacon.{beaconTooLarge, writeBeacon}
 use Rattle.beacon.proofs.Content.{fitting}
 use Rattle.beacon_facts.specs.Cleared.{beaconCleared}
 use Rattle.beacon_facts.specs.Formats.{beacon}
 use Rattle.beacon_facts.proofs.Format.{Written, Laws}
 use Rattle.beacon_facts.proofs.Listed.{superframe-listed, time-slots-listed, pending-listed, beacon-listed}
 use Rattle.beacon_facts.proofs.Places.{over, past, past-length}
-use Rattle.beacon_facts.proofs.Superframe.{superframe-fits, superframe-again, superframe-more, superframe-back, superframe-accepts, superframe-laws}
-use Rattle.beacon_facts.proofs.TimeSlots.{time-slots-fit, time-slots-same, time-slots-typed, time-slots-again, count-more, time-slots-more, count-stored, time-slots-back, time-slots-length, time-slots-bytes, time-slots-reset-fits, time-slots-settled, time-slots-accepts}
-use Rattle.beacon_facts.proofs.Pending.{pending-fits, pending-same, pending-typed, pending-again, counts-more, pending-more, shorts-stored, extendeds-stored, pending-back, pending-length, pending-bytes, pending-reset-fits, pending-settled, pending-accepts}
+use Rattle.beacon_facts.proofs.Superframe.{superframe-fits, superframe-again, superframe-more, superframe-back, superframe-accepts}
+use Rattle.beacon_facts.proofs.Superframe.{superframe-laws}
+use Rattle.beacon_facts.proofs.TimeSlots.{time-slots-fit, time-slots-same, time-slots-typed, time-slots-again, count-more}
+use Rattle.beacon_facts.proofs.TimeSlots.{time-slots-more, count-stored, time-slots-back, time-slots-length, time-slots-bytes}
+use Rattle.beacon_facts.proofs.TimeSlots.{time-slots-reset-fits, time-slots-settled, time-slots-accepts}
+use Rattle.beacon_facts.proofs.Pending.{pending-fits, pending-same, pending-typed, pending-again, counts-more, pending-more}
+use Rattle.beacon_facts.proofs.Pending.{shorts-stored, extendeds-stored, pending-back, pending-length, pending-bytes}
+use Rattle.beacon_facts.proofs.Pending.{pending-reset-fits, pending-settled, pending-accepts}
 
 -- each part was there
 pub record Found (s : List ℕ) (at : ℕ) : Type 0 where
@@ -59,7 +66,8 @@ module _ (s : List ℕ) (at : ℕ) where
   all-found h = omega (arith, h .superframe, h .slots, h .pending, demand-enough (slotCountIn s (at + 2)))
 
   -- it is refused, or each part was there
-  refused-or-found : (readBeacon s at ≡ beaconRefused) ⊎ ((readBeacon s at ≡ beacon .accepts (beaconIn s at) (beaconLengthIn s at)) × Found s at)
+  refused-or-found : (readBeacon s at ≡ beaconRefused)
+      ⊎ ((readBeacon s at ≡ beacon .accepts (beaconIn s at) (beaconLengthIn s at)) × Found s at)
   unfolding readBeacon
   refused-or-found =
       cases (holds? (eqb (readSuperframe s at .outcome .number) 0)) (λ one.
@@ -81,13 +89,19 @@ module _ (s : List ℕ) (at : ℕ) where
   unfolding readBeacon
   beacon-accepts h =
       let found = found-all h in
-      rw (superframe-accepts s at (found .superframe), time-slots-accepts s (at + 2) (found .slots), pending-accepts s (pendingPlace s at) (found .pending))
+      rw (
+        superframe-accepts s at (found .superframe),
+        time-slots-accepts s (at + 2) (found .slots),
+        pending-accepts s (pendingPlace s at) (found .pending),
+      )
 
   -- a beacon is refused exactly where its bytes are not all there
-  pub whole : readBeacon s at ≡ first ((ends s at (beaconLengthIn s at), beaconRefused) ∷ []) (beacon .accepts (beaconIn s at) (beaconLengthIn s at))
+  pub whole : readBeacon s at ≡ first ((ends s at (beaconLengthIn s at), beaconRefused) ∷ [])
+      (beacon .accepts (beaconIn s at) (beaconLengthIn s at))
   whole =
       cases (holds? (ends s at (beaconLengthIn s at)))
-      (λ e. rw e (cases refused-or-found (λ r. r) (λ r. absurd (omega (arith, ltb-true (length s - at) (beaconLengthIn s at) e, all-found (r .1))))))
+      (λ e. rw e (cases refused-or-found (λ r. r)
+      (λ r. absurd (omega (arith, ltb-true (length s - at) (beaconLengthIn s at) e, all-found (r .1))))))
       (λ e. rw e (beacon-accepts (ltb-false _ _ e)))
 
   -- what was read was there
@@ -133,9 +147,6 @@ module _ (s : List ℕ) (at : ℕ) where
     beacon-typed b = (time-slots-typed s (at + 2) slots-there b, pending-typed s (pendingPlace s at) (found .pending) b)
 
     module _ (t : List ℕ) where
-      place-more : pendingPlace (s ++ t) at ≡ pendingPlace s at
-      place-more = rw (count-more s (at + 2) slots-there t)
-
       length-more : beaconLengthIn (s ++ t) at ≡ beaconLengthIn s at
       unfolding beaconLengthIn
       length-more = rw (count-more s (at + 2) slots-there t, counts-more s (pendingPlace s at) (found .pending) t)
@@ -202,12 +213,14 @@ module _ (x : Beacon) (typed : beacon .Typed x) (f : beaconTooLarge x ≡ false)
     at-pending = past p superframe (slots ++ pending) t ∙ past (p ++ superframe) slots pending t
 
     behind-slots : length ((p ++ superframe) ++ slots) ≡ place
-    behind-slots = past-length (p ++ superframe) slots (at + 2) (timeSlotsSize (x .«guaranteed_time_slot_info»)) behind-superframe slots-length
+    behind-slots = past-length (p ++ superframe) slots (at + 2)
+        (timeSlotsSize (x .«guaranteed_time_slot_info»)) behind-superframe slots-length
 
     count-back : slotCountIn stored (at + 2) ≡ x .«guaranteed_time_slot_info» .«slot_count»
     count-back =
         ap (λ (s : List ℕ). slotCountIn s (at + 2)) at-slots
-        ∙ count-stored (x .«guaranteed_time_slot_info») (typed .0) (fitting x f .slots) (p ++ superframe) (pending ++ t) (at + 2) behind-superframe
+        ∙ count-stored (x .«guaranteed_time_slot_info») (typed .0) (fitting x f .slots) (p ++ superframe) (pending ++ t)
+        (at + 2) behind-superframe
 
     shorts-back : shortCountIn stored place ≡ x .«pending_address» .«short_address_count»
     shorts-back =
@@ -227,7 +240,8 @@ module _ (x : Beacon) (typed : beacon .Typed x) (f : beaconTooLarge x ≡ false)
     slots-part : timeSlotsIn stored (at + 2) ≡ beacon .reset x .«guaranteed_time_slot_info»
     slots-part =
         ap (λ (s : List ℕ). timeSlotsIn s (at + 2)) at-slots
-        ∙ time-slots-back (x .«guaranteed_time_slot_info») (typed .0) (fitting x f .slots) (p ++ superframe) (pending ++ t) (at + 2) behind-superframe
+        ∙ time-slots-back (x .«guaranteed_time_slot_info») (typed .0) (fitting x f .slots) (p ++ superframe) (pending ++ t)
+        (at + 2) behind-superframe
 
     pending-part : pendingIn stored place ≡ beacon .reset x .«pending_address»
     pending-part =
@@ -271,7 +285,8 @@ module _ (x : Beacon) (typed : beacon .Typed x) (f : beaconTooLarge x ≡ false)
 pub beacon-bytes : (x : Beacon) → Bytes (beaconBytes x)
 unfolding beaconBytes
 beacon-bytes x =
-    bytes-append (superframeBytes (x .«superframe_spec»)) (timeSlotsBytes (x .«guaranteed_time_slot_info») ++ pendingBytes (x .«pending_address»))
+    bytes-append (superframeBytes (x .«superframe_spec»))
+    (timeSlotsBytes (x .«guaranteed_time_slot_info») ++ pendingBytes (x .«pending_address»))
     (superframe-laws .bytes (x .«superframe_spec»))
     (bytes-append (timeSlotsBytes (x .«guaranteed_time_slot_info»)) (pendingBytes (x .«pending_address»))
     (time-slots-bytes (x .«guaranteed_time_slot_info»)) (pending-bytes (x .«pending_address»)))

@@ -13,12 +13,13 @@ use Rattle.octets.specs.Bits.{bits}
 use Rattle.octets.specs.Little.{number, split, Bytes}
 use Rattle.octets.proofs.Each.{same}
 use Rattle.octets.proofs.Little.{split-length, split-bytes, bytes-append, number-again, number-small, number-more}
-use Rattle.time_slot.specs.declared.Direction.{Direction}
-use Rattle.time_slot.specs.declared.Direction.the-variants.{Receive}
-use Rattle.time_slot.specs.declared.GuaranteedTimeSlotDescriptor.{GuaranteedTimeSlotDescriptor}
-use Rattle.time_slot.specs.declared.DescriptorRead.{DescriptorRead}
-use Rattle.time_slot.specs.Descriptor.{descriptorOf, descriptorIn, readDescriptor, slotByte, descriptorBytes, descriptorTooLarge, writeDescriptor}
-use Rattle.time_slot.proofs.Descriptor.{descriptor-length, fitting, descriptor-read}
+use Rattle.time_slots.specs.declared.Direction.{Direction}
+use Rattle.time_slots.specs.declared.Direction.the-variants.{Receive}
+use Rattle.time_slots.specs.declared.GuaranteedTimeSlotDescriptor.{GuaranteedTimeSlotDescriptor}
+use Rattle.time_slots.specs.declared.DescriptorRead.{DescriptorRead}
+use Rattle.time_slots.specs.Descriptor.{descriptorOf, descriptorIn, readDescriptor, slotByte, descriptorBytes, descriptorTooLarge}
+use Rattle.time_slots.specs.Descriptor.{writeDescriptor}
+use Rattle.time_slots.proofs.Descriptor.{descriptor-length, fitting, descriptor-read}
 use Rattle.beacon_facts.specs.Cleared.{descriptorCleared}
 use Rattle.beacon_facts.specs.Formats.{descriptor, DescriptorTyped}
 use Rattle.beacon_facts.proofs.Format.{Written, Laws}
@@ -54,7 +55,8 @@ module _ (s : List ℕ) (at : ℕ) (d : Direction) where
   descriptor-typed b h = number-small s at 2 b (omega arith)
 
 -- the fields put together are read as those fields, beside a direction
-pub descriptor-back : (x : GuaranteedTimeSlotDescriptor) (p t : List ℕ) (at : ℕ) (d : Direction) → DescriptorTyped x → descriptorTooLarge x ≡ false → length p ≡ at →
+pub descriptor-back : (x : GuaranteedTimeSlotDescriptor) (p t : List ℕ) (at : ℕ) (d : Direction) → DescriptorTyped x →
+    descriptorTooLarge x ≡ false → length p ≡ at →
     descriptorIn (p ++ (descriptorBytes x ++ t)) at d ≡ descriptorOf (x .«short_address») (x .«starting_slot») (x .length) d
 unfolding descriptorBytes descriptorIn
 descriptor-back x p t at d typed f e =
@@ -71,7 +73,8 @@ descriptor-back x p t at d typed f e =
 
 pub descriptor-bytes : (x : GuaranteedTimeSlotDescriptor) → Bytes (descriptorBytes x)
 unfolding descriptorBytes
-descriptor-bytes x = bytes-append (split 2 (x .«short_address» .0)) (split 1 (slotByte x)) (split-bytes 2 (x .«short_address» .0)) (split-bytes 1 (slotByte x))
+descriptor-bytes x = bytes-append (split 2 (x .«short_address» .0)) (split 1 (slotByte x)) (split-bytes 2 (x .«short_address» .0))
+    (split-bytes 1 (slotByte x))
 
 accepts-there : (s : List ℕ) (at : ℕ) → 3 ≤ length s - at → readDescriptor s at ≡ descriptor .accepts (descriptorIn s at Receive) 3
 unfolding readDescriptor
@@ -123,7 +126,8 @@ descriptor-laws =
         fits = reset-fits x f;
         settled = settled x;
         back = λ p t h.
-            accepts-there (p ++ (descriptorBytes x ++ t)) (length p) (rw (length-append p (descriptorBytes x ++ t), length-append (descriptorBytes x) t, descriptor-length x) (omega arith))
+            accepts-there (p ++ (descriptorBytes x ++ t)) (length p)
+            (rw (length-append p (descriptorBytes x ++ t), length-append (descriptorBytes x) t, descriptor-length x) (omega arith))
             ∙ ap (λ (x : GuaranteedTimeSlotDescriptor). descriptor .accepts x 3) (descriptor-back x p t (length p) Receive typed f refl);
       };
     }

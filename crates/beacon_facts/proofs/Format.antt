@@ -46,6 +46,7 @@ module _ {X R : Type 0} (F : Format X R) (laws : Laws F) where
         written = k .written;
         again = again s at x n k;
         settled = λ p t bp bt h.
-            sym (laws .taken (p ++ (F .bytes x ++ t)) (length p) x n (bytes-append p (F .bytes x ++ t) bp (bytes-append (F .bytes x) t (laws .bytes x) bt)) (again s at x n k p t h) .written);
+            sym (laws .taken (p ++ (F .bytes x ++ t)) (length p) x n
+            (bytes-append p (F .bytes x ++ t) bp (bytes-append (F .bytes x) t (laws .bytes x) bt)) (again s at x n k p t h) .written);
         behind = k .behind;
       }

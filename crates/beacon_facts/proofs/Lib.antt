@@ -1,7 +1,7 @@
 pub mod Format
 pub mod Places
 pub mod Listed
-pub mod Each
+pub mod SideBySide
 pub mod Superframe
 pub mod Descriptor
 pub mod TimeSlots

@@ -71,7 +71,8 @@ set-right (a ∷ x) y j v = rw (suc-add (length x) j, set-right x y j v)
 clear-right : (i n j b count : ℕ) (x y : List ℕ) → length x ≡ n → i ≡ n + j → clearAt i b count (x ++ y) ≡ x ++ clearAt j b count y
 clear-right i n j b count x y e f = rw (f, sym e, getD-append-add x y j 0) (set-right x y j (clear b count (getD y j 0)))
 
-directions-inside : (k : ℕ) (x y z : List ℕ) → length x ≡ 2 → length y ≡ 1 + slotsLength k → clearDirections k 3 (x ++ (y ++ z)) ≡ x ++ (clearDirections k 1 y ++ z)
+directions-inside : (k : ℕ) (x y z : List ℕ) → length x ≡ 2 → length y ≡ 1 + slotsLength k →
+    clearDirections k 3 (x ++ (y ++ z)) ≡ x ++ (clearDirections k 1 y ++ z)
 directions-inside zero x y z e f = refl
 directions-inside (suc k) x y z e f =
     rw (clear-right 3 2 1 (suc k) (8 - suc k) x (y ++ z) e refl, clear-left 1 (suc k) (8 - suc k) y z (rw f (omega arith)))
@@ -82,7 +83,8 @@ directions-length (suc k) i l = length-set l i _
 
 -- in the bytes of three parts, the bits of each
 parts-cleared : (k : ℕ) (x y z : List ℕ) → length x ≡ 2 → length y ≡ 1 + slotsLength k →
-    clearAt (2 + (1 + slotsLength k)) 3 1 (clearAt (2 + (1 + slotsLength k)) 7 1 (clearDirections k 3 (clearAt 2 3 4 (clearAt 1 5 1 (x ++ (y ++ z))))))
+    clearAt (2 + (1 + slotsLength k)) 3 1
+    (clearAt (2 + (1 + slotsLength k)) 7 1 (clearDirections k 3 (clearAt 2 3 4 (clearAt 1 5 1 (x ++ (y ++ z))))))
     ≡ clearAt 1 5 1 x ++ (clearDirections k 1 (clearAt 0 3 4 y) ++ clearAt 0 3 1 (clearAt 0 7 1 z))
 parts-cleared k x y z e f =
     let n = 1 + slotsLength k in
@@ -109,7 +111,14 @@ parts-cleared k x y z e f =
 parts : (s : List ℕ) (at m n : ℕ) → part s at (2 + m + n) ≡ part s at 2 ++ (part s (at + 2) m ++ part s (at + 2 + m) n)
 parts s at m n =
     let e : at + (2 + m) ≡ at + 2 + m = omega arith in
-    rw (take-add (2 + m) n (drop at s), take-add 2 m (drop at s), drop-drop 2 at s, drop-drop (2 + m) at s, e, append-assoc (part s at 2) (part s (at + 2) m) (part s (at + 2 + m) n))
+    rw (
+      take-add (2 + m) n (drop at s),
+      take-add 2 m (drop at s),
+      drop-drop 2 at s,
+      drop-drop (2 + m) at s,
+      e,
+      append-assoc (part s at 2) (part s (at + 2) m) (part s (at + 2 + m) n),
+    )
 
 pub beacon-listed : (s : List ℕ) (at : ℕ) → beaconLengthIn s at ≤ length s - at →
     superframeCleared s at ++ (timeSlotsCleared s (at + 2) ++ pendingCleared s (pendingPlace s at)) ≡ beaconCleared s at
@@ -119,4 +128,5 @@ beacon-listed s at h =
     let n = pendingLengthIn s (pendingPlace s at) in
     let two : length (part s at 2) ≡ 2 = length-take-le 2 (drop at s) (rw (length-drop at s) (omega arith)) in
     let long : length (part s (at + 2) m) ≡ m = length-take-le m (drop (at + 2) s) (rw (length-drop (at + 2) s) (omega arith)) in
-    sym (rw (parts s at m n) (parts-cleared (slotCountIn s (at + 2)) (part s at 2) (part s (at + 2) m) (part s (pendingPlace s at) n) two long))
+    sym (rw (parts s at m n) (parts-cleared (slotCountIn s (at + 2)) (part s at 2) (part s (at + 2) m)
+    (part s (pendingPlace s at) n) two long))

@@ -10,8 +10,8 @@ use Rattle.octets.specs.declared.ValueWritten.the-variants as Variant
 use Rattle.octets.specs.Value.{valueOutcome}
 use Rattle.superframe.specs.declared.SuperframeRead.{SuperframeRead}
 use Rattle.superframe.specs.Superframe.{readSuperframe}
-use Rattle.time_slot.specs.declared.DescriptorRead.{DescriptorRead}
-use Rattle.time_slot.specs.Descriptor.{readDescriptor}
+use Rattle.time_slots.specs.declared.DescriptorRead.{DescriptorRead}
+use Rattle.time_slots.specs.Descriptor.{readDescriptor}
 use Rattle.time_slots.specs.declared.TimeSlotsRead.{TimeSlotsRead}
 use Rattle.time_slots.specs.TimeSlots.{slotsDemand, slotCountIn, timeSlotsRefused, readTimeSlots}
 use Rattle.pending.specs.declared.PendingRead.{PendingRead}
@@ -45,7 +45,8 @@ time-slots-reading s at =
 pub pending-reading : Reading (λ s at. readPending s at .outcome) pendingTests
 unfolding readPending
 pending-reading s at =
-    first-map (λ (r : PendingRead). r .outcome .number) ((ends s at 1, pendingRefused) ∷ (ends s at (pendingLengthIn s at), pendingRefused) ∷ []) _
+    first-map (λ (r : PendingRead). r .outcome .number)
+    ((ends s at 1, pendingRefused) ∷ (ends s at (pendingLengthIn s at), pendingRefused) ∷ []) _
 
 pub beacon-reading : Reading (λ s at. readBeacon s at .outcome) beaconTests
 beacon-reading s at =
@@ -56,7 +57,8 @@ beacon-reading s at =
 any-writing : {X R : Type 0} (F : Format X R) → Written F → Writing F
 any-writing F writes x out at =
     ap (λ (r : ValueWritten). valueOutcome r .number) (writes x out at)
-    ∙ first-map (λ (r : ValueWritten). valueOutcome r .number) ((F .tooLarge x, Variant.TooLarge) ∷ (ends out at (F .size x), Variant.Full) ∷ []) (Variant.Written (F .size x))
+    ∙ first-map (λ (r : ValueWritten). valueOutcome r .number)
+    ((F .tooLarge x, Variant.TooLarge) ∷ (ends out at (F .size x), Variant.Full) ∷ []) (Variant.Written (F .size x))
 
 pub superframe-writing : Writing superframe
 superframe-writing = any-writing superframe superframe-writes

@@ -19,61 +19,74 @@ use Rattle.identifiers.specs.declared.ExtendedAddress.{ExtendedAddress}
 use Rattle.identifiers.specs.ShortAddress.{short}
 use Rattle.identifiers.specs.ExtendedAddress.{extended}
 use Rattle.seven_places.specs.Seven.{reset}
-use Rattle.seven_places.proofs.Seven.{seven-length, seven-same, each-length}
+use Rattle.seven_places.proofs.Seven.{seven-length, seven-same, seven-reset, seven-all, reset-in-use, each-length}
 use Rattle.pending.specs.declared.PendingAddress.{PendingAddress}
 use Rattle.pending.specs.declared.PendingRead.{PendingRead}
 use Rattle.pending.specs.Addresses.{shortAt, extendedAt, emptyShort, emptyExtended, shortsIn, extendedsIn, shortBytes, extendedBytes}
-use Rattle.pending.specs.Pending.{shortCountIn, extendedCountIn, pendingIn, pendingLengthIn, readPending, pendingHeader, pendingBytes, pendingSize, pendingTooLarge, writePending}
+use Rattle.pending.specs.Pending.{shortCountIn, extendedCountIn, pendingIn, pendingLengthIn, readPending, pendingHeader, pendingBytes}
+use Rattle.pending.specs.Pending.{pendingSize, pendingTooLarge, writePending}
 use Rattle.pending.proofs.Pending.{fitting, pending-read}
 use Rattle.beacon_facts.specs.Formats.{pending, Seven, PendingTyped, pendingReset}
 use Rattle.beacon_facts.proofs.Format.{Written, Laws}
 use Rattle.beacon_facts.proofs.Listed.{pendingListed, pending-listed}
 use Rattle.beacon_facts.proofs.Places.{split-one, byte-small, over, past, past-length, number-first}
-use Rattle.beacon_facts.proofs.Each.{reset-in-use, entries-again, entry-place, entry-at, each-bytes, seven-reset, seven-all}
+use Rattle.beacon_facts.proofs.SideBySide.{entries-again, entry-place, entry-at, each-bytes}
 
 header-again : (b : ℕ) → b < 256 → b % 8 + 16 * bits b 4 3 ≡ clear 3 1 (clear 7 1 b)
 header-again = same (λ b. b % 8 + 16 * bits b 4 3) (λ b. clear 3 1 (clear 7 1 b)) 256 tt
 
 -- addresses of w bytes side by side, written again and read back
 module _ (s : List ℕ) (at : ℕ) where
-  shorts-again : (n : ℕ) → n ≤ 7 → Bytes s → at + 2 * n ≤ length s → flatMap shortBytes (take n (shortsIn s at n)) ≡ take (2 * n) (drop at s)
+  shorts-again : (n : ℕ) → n ≤ 7 → Bytes s → at + 2 * n ≤ length s →
+      flatMap shortBytes (take n (shortsIn s at n)) ≡ take (2 * n) (drop at s)
   unfolding shortAt
-  shorts-again n few b there = entries-again shortBytes 2 s at n (shortAt s at) (λ k h. number-again s (at + 2 * k) 2 b (omega arith)) emptyShort few
+  shorts-again n few b there = entries-again shortBytes 2 s at n (shortAt s at)
+      (λ k h. number-again s (at + 2 * k) 2 b (omega arith)) emptyShort few
 
-  extendeds-again : (n : ℕ) → n ≤ 7 → Bytes s → at + 8 * n ≤ length s → flatMap extendedBytes (take n (extendedsIn s at n)) ≡ take (8 * n) (drop at s)
+  extendeds-again : (n : ℕ) → n ≤ 7 → Bytes s → at + 8 * n ≤ length s →
+      flatMap extendedBytes (take n (extendedsIn s at n)) ≡ take (8 * n) (drop at s)
   unfolding extendedAt
-  extendeds-again n few b there = entries-again extendedBytes 8 s at n (extendedAt s at) (λ k h. number-again s (at + 8 * k) 8 b (omega arith)) emptyExtended few
+  extendeds-again n few b there = entries-again extendedBytes 8 s at n (extendedAt s at)
+      (λ k h. number-again s (at + 8 * k) 8 b (omega arith)) emptyExtended few
 
   shorts-typed : (n : ℕ) → Bytes s → at + 2 * n ≤ length s → Seven (λ (a : ShortAddress). a .0 < 256 ^ 2) emptyShort (shortsIn s at n)
   unfolding shortAt
   shorts-typed n b there = (
     seven-length (shortAt s at) emptyShort n,
-    seven-all (λ (a : ShortAddress). a .0 < 256 ^ 2) (shortAt s at) emptyShort n (omega arith) (λ k h. number-small s (at + 2 * k) 2 b (omega arith)),
+    seven-all (λ (a : ShortAddress). a .0 < 256 ^ 2) (shortAt s at) emptyShort n (omega arith)
+        (λ k h. number-small s (at + 2 * k) 2 b (omega arith)),
   )
 
-  extendeds-typed : (n : ℕ) → Bytes s → at + 8 * n ≤ length s → Seven (λ (a : ExtendedAddress). a .0 < 256 ^ 8) emptyExtended (extendedsIn s at n)
+  extendeds-typed : (n : ℕ) → Bytes s → at + 8 * n ≤ length s →
+      Seven (λ (a : ExtendedAddress). a .0 < 256 ^ 8) emptyExtended (extendedsIn s at n)
   unfolding extendedAt
   extendeds-typed n b there = (
     seven-length (extendedAt s at) emptyExtended n,
-    seven-all (λ (a : ExtendedAddress). a .0 < 256 ^ 8) (extendedAt s at) emptyExtended n (omega arith) (λ k h. number-small s (at + 8 * k) 8 b (omega arith)),
+    seven-all (λ (a : ExtendedAddress). a .0 < 256 ^ 8) (extendedAt s at) emptyExtended n (omega arith)
+        (λ k h. number-small s (at + 8 * k) 8 b (omega arith)),
   )
 
   shorts-more : (n : ℕ) (t : List ℕ) → at + 2 * n ≤ length s → shortsIn (s ++ t) at n ≡ shortsIn s at n
   unfolding shortAt
-  shorts-more n t there = seven-same (shortAt (s ++ t) at) (shortAt s at) emptyShort n (λ k h. ap short (number-more s t (at + 2 * k) 2 (omega arith)))
+  shorts-more n t there = seven-same (shortAt (s ++ t) at) (shortAt s at) emptyShort n
+      (λ k h. ap short (number-more s t (at + 2 * k) 2 (omega arith)))
 
   extendeds-more : (n : ℕ) (t : List ℕ) → at + 8 * n ≤ length s → extendedsIn (s ++ t) at n ≡ extendedsIn s at n
   unfolding extendedAt
-  extendeds-more n t there = seven-same (extendedAt (s ++ t) at) (extendedAt s at) emptyExtended n (λ k h. ap extended (number-more s t (at + 8 * k) 8 (omega arith)))
+  extendeds-more n t there = seven-same (extendedAt (s ++ t) at) (extendedAt s at) emptyExtended n
+      (λ k h. ap extended (number-more s t (at + 8 * k) 8 (omega arith)))
 
-module _ {A : Type 0} (value : A → ℕ) (w : ℕ) (empty : A) (l : List A) (n : ℕ) (few : n ≤ length l) (p t : List ℕ) (at : ℕ) (before : length p ≡ at) where
+module _ {A : Type 0} (value : A → ℕ) (w : ℕ) (empty : A) (l : List A) (n : ℕ) (few : n ≤ length l) (p t : List ℕ) (at : ℕ)
+    (before : length p ≡ at) where
   abbrev bytesOf : A → List ℕ
   bytesOf x = split w (value x)
 
-  address-back : (k : ℕ) → k < n → value (getD l k empty) < 256 ^ w → number (p ++ (flatMap bytesOf (take n l) ++ t)) (at + w * k) w ≡ value (getD l k empty)
+  address-back : (k : ℕ) → k < n → value (getD l k empty) < 256 ^ w →
+      number (p ++ (flatMap bytesOf (take n l) ++ t)) (at + w * k) w ≡ value (getD l k empty)
   address-back k h small =
       rw (entry-place bytesOf w (λ x. split-length w (value x)) l n few k h empty p t)
-      (number-back (p ++ flatMap bytesOf (take k l)) (at + w * k) w (value (getD l k empty)) (flatMap bytesOf (drop (k + 1) (take n l)) ++ t)
+      (number-back (p ++ flatMap bytesOf (take k l)) (at + w * k) w (value (getD l k empty))
+      (flatMap bytesOf (drop (k + 1) (take n l)) ++ t)
       (entry-at bytesOf w (λ x. split-length w (value x)) l n few k h empty p at before) small)
 
 module _ (p t : List ℕ) (at : ℕ) (before : length p ≡ at) where
@@ -82,14 +95,16 @@ module _ (p t : List ℕ) (at : ℕ) (before : length p ≡ at) where
   unfolding shortAt
   shorts-back l n few typed =
       seven-same (shortAt (p ++ (flatMap shortBytes (take n l) ++ t)) at) (λ (k : ℕ). getD l k emptyShort) emptyShort n
-      (λ k h. ap short (address-back (λ (a : ShortAddress). a .0) 2 emptyShort l n (rw (typed .0) few) p t at before k h (typed .1 k (omega arith))))
+      (λ k h. ap short (address-back (λ (a : ShortAddress). a .0) 2 emptyShort l n (rw (typed .0) few) p t at before k h
+      (typed .1 k (omega arith))))
 
   extendeds-back : (l : List ExtendedAddress) (n : ℕ) → n ≤ 7 → Seven (λ (a : ExtendedAddress). a .0 < 256 ^ 8) emptyExtended l →
       extendedsIn (p ++ (flatMap extendedBytes (take n l) ++ t)) at n ≡ reset l emptyExtended n
   unfolding extendedAt
   extendeds-back l n few typed =
       seven-same (extendedAt (p ++ (flatMap extendedBytes (take n l) ++ t)) at) (λ (k : ℕ). getD l k emptyExtended) emptyExtended n
-      (λ k h. ap extended (address-back (λ (a : ExtendedAddress). a .0) 8 emptyExtended l n (rw (typed .0) few) p t at before k h (typed .1 k (omega arith))))
+      (λ k h. ap extended (address-back (λ (a : ExtendedAddress). a .0) 8 emptyExtended l n (rw (typed .0) few) p t at before k h
+      (typed .1 k (omega arith))))
 
 -- pending addresses that were written
 module _ (x : PendingAddress) (typed : PendingTyped x) (f : pendingTooLarge x ≡ false) where
@@ -111,7 +126,8 @@ module _ (x : PendingAddress) (typed : PendingTyped x) (f : pendingTooLarge x �
       rw half (mod-eq-of-lt (omega (arith, fitting x f)))
 
   shorts-length : length shorts ≡ 2 * x .«short_address_count»
-  shorts-length = each-length shortBytes 2 (λ a. split-length 2 (a .0)) (x .«short_addresses») (x .«short_address_count») (rw (typed .0 .0) (fitting x f .0))
+  shorts-length = each-length shortBytes 2 (λ a. split-length 2 (a .0)) (x .«short_addresses») (x .«short_address_count»)
+      (rw (typed .0 .0) (fitting x f .0))
 
   pub pending-length : length (pendingBytes x) ≡ pendingSize x
   unfolding pendingBytes
@@ -121,7 +137,8 @@ module _ (x : PendingAddress) (typed : PendingTyped x) (f : pendingTooLarge x �
         split-length 1 (pendingHeader x),
         length-append shorts extendeds,
         shorts-length,
-        each-length extendedBytes 8 (λ a. split-length 8 (a .0)) (x .«extended_addresses») (x .«extended_address_count») (rw (typed .1 .0) (fitting x f .1)),
+        each-length extendedBytes 8 (λ a. split-length 8 (a .0)) (x .«extended_addresses») (x .«extended_address_count»)
+            (rw (typed .1 .0) (fitting x f .1)),
       )
 
   module _ (p t : List ℕ) (at : ℕ) (before : length p ≡ at) where
@@ -141,11 +158,13 @@ module _ (x : PendingAddress) (typed : PendingTyped x) (f : pendingTooLarge x �
     behind-header : length header ≡ at + 1
     behind-header = past-length p (split 1 (pendingHeader x)) at 1 before (split-length 1 (pendingHeader x))
 
-    short-list : shortsIn (p ++ (pendingBytes x ++ t)) (at + 1) (x .«short_address_count») ≡ reset (x .«short_addresses») emptyShort (x .«short_address_count»)
+    short-list : shortsIn (p ++ (pendingBytes x ++ t)) (at + 1) (x .«short_address_count»)
+        ≡ reset (x .«short_addresses») emptyShort (x .«short_address_count»)
     unfolding pendingBytes
     short-list =
         rw (past p (split 1 (pendingHeader x)) (shorts ++ extendeds) t, over header shorts extendeds t)
-        (shorts-back header (extendeds ++ t) (at + 1) behind-header (x .«short_addresses») (x .«short_address_count») (fitting x f .0) (typed .0))
+        (shorts-back header (extendeds ++ t) (at + 1) behind-header (x .«short_addresses») (x .«short_address_count») (fitting x f .0)
+        (typed .0))
 
     extended-list : extendedsIn (p ++ (pendingBytes x ++ t)) (at + 1 + 2 * x .«short_address_count») (x .«extended_address_count»)
         ≡ reset (x .«extended_addresses») emptyExtended (x .«extended_address_count»)
@@ -180,7 +199,8 @@ unfolding pendingBytes
 pending-bytes x =
     let shorts = take (x .«short_address_count») (x .«short_addresses») in
     let extendeds = take (x .«extended_address_count») (x .«extended_addresses») in
-    bytes-append (split 1 (pendingHeader x)) (flatMap shortBytes shorts ++ flatMap extendedBytes extendeds) (split-bytes 1 (pendingHeader x))
+    bytes-append (split 1 (pendingHeader x)) (flatMap shortBytes shorts ++ flatMap extendedBytes extendeds)
+    (split-bytes 1 (pendingHeader x))
     (bytes-append (flatMap shortBytes shorts) (flatMap extendedBytes extendeds)
     (each-bytes shortBytes (λ a. split-bytes 2 (a .0)) shorts) (each-bytes extendedBytes (λ a. split-bytes 8 (a .0)) extendeds))
 
@@ -199,7 +219,10 @@ module _ (s : List ℕ) (at : ℕ) where
   pub pending-same : pendingReset (pendingIn s at) ≡ pendingIn s at
   unfolding pendingIn
   pending-same =
-      rw (seven-reset (shortAt s (at + 1)) emptyShort shortCount (omega arith), seven-reset (extendedAt s (at + 1 + 2 * shortCount)) emptyExtended extendedCount (omega arith))
+      rw (
+        seven-reset (shortAt s (at + 1)) emptyShort shortCount (omega arith),
+        seven-reset (extendedAt s (at + 1 + 2 * shortCount)) emptyExtended extendedCount (omega arith),
+      )
 
   pub pending-size : pendingSize (pendingIn s at) ≡ pendingLengthIn s at
   unfolding pendingIn
@@ -208,7 +231,11 @@ module _ (s : List ℕ) (at : ℕ) where
   module _ (there : pendingLengthIn s at ≤ length s - at) where
     pub pending-typed : Bytes s → PendingTyped (pendingIn s at)
     unfolding pendingIn
-    pending-typed b = (shorts-typed s (at + 1) shortCount b (omega arith), extendeds-typed s (at + 1 + 2 * shortCount) extendedCount b (omega arith))
+    pending-typed b = (
+      shorts-typed s (at + 1) shortCount b (omega arith),
+      extendeds-typed s (at + 1 + 2 * shortCount) extendedCount b
+          (omega arith),
+    )
 
     pub pending-again : Bytes s → pendingBytes (pendingIn s at) ≡ pendingListed s at
     unfolding pendingBytes pendingIn pendingListed
@@ -230,9 +257,14 @@ module _ (s : List ℕ) (at : ℕ) where
       pub pending-more : pendingIn (s ++ t) at ≡ pendingIn s at
       unfolding pendingIn
       pending-more =
-          rw (number-more s t at 1 (omega arith), shorts-more s (at + 1) shortCount t (omega arith), extendeds-more s (at + 1 + 2 * shortCount) extendedCount t (omega arith))
+          rw (
+            number-more s t at 1 (omega arith),
+            shorts-more s (at + 1) shortCount t (omega arith),
+            extendeds-more s (at + 1 + 2 * shortCount) extendedCount t (omega arith),
+          )
 
-pub pending-accepts : (s : List ℕ) (at : ℕ) → pendingLengthIn s at ≤ length s - at → readPending s at ≡ pending .accepts (pendingIn s at) (pendingLengthIn s at)
+pub pending-accepts : (s : List ℕ) (at : ℕ) → pendingLengthIn s at ≤ length s - at →
+    readPending s at ≡ pending .accepts (pendingIn s at) (pendingLengthIn s at)
 unfolding readPending
 pending-accepts s at h = rw (le-ltb (length s - at) 1 (omega arith), le-ltb (length s - at) (pendingLengthIn s at) h)
 
@@ -270,7 +302,8 @@ pending-laws =
             let shorts = shorts-stored x typed f p t (length p) refl in
             let extendeds = extendeds-stored x typed f p t (length p) refl in
             pending-accepts (p ++ (pendingBytes x ++ t)) (length p)
-            (rw (shorts, extendeds, length-append p (pendingBytes x ++ t), length-append (pendingBytes x) t, pending-length x typed f) (omega arith))
+            (rw (shorts, extendeds, length-append p (pendingBytes x ++ t), length-append (pendingBytes x) t, pending-length x typed f)
+            (omega arith))
             ∙ rw (pending-back x typed f p t (length p) refl, shorts, extendeds);
       };
     }

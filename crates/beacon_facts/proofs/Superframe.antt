@@ -16,7 +16,8 @@ use Rattle.octets.proofs.Little.{split-length, split-bytes, bytes-append, numbe
 use Rattle.superframe.specs.declared.SuperframeSpecification.{SuperframeSpecification}
 use Rattle.superframe.specs.declared.SuperframeRead.{SuperframeRead}
 use Rattle.superframe.specs.Orders.{beaconOrderOf, beaconOrderBits, superframeOrderOf, superframeOrderBits}
-use Rattle.superframe.specs.Superframe.{superframeIn, readSuperframe, ordersByte, restByte, superframeBytes, superframeTooLarge, writeSuperframe}
+use Rattle.superframe.specs.Superframe.{superframeIn, readSuperframe, ordersByte, restByte, superframeBytes, superframeTooLarge}
+use Rattle.superframe.specs.Superframe.{writeSuperframe}
 use Rattle.superframe.proofs.Orders.{beacon-order-back, beacon-order-again, superframe-order-back, superframe-order-again}
 use Rattle.superframe.proofs.Superframe.{superframe-length, fitting, superframe-read}
 use Rattle.beacon_facts.specs.Formats.{superframe}
@@ -26,7 +27,8 @@ use Rattle.beacon_facts.proofs.Places.{split-one, byte-small, number-fi
 
 -- each byte, taken apart and put together again
 orders-again : (a : ℕ) → a < 256 → beaconOrderBits (beaconOrderOf (a % 16)) + 16 * superframeOrderBits (superframeOrderOf (bits a 4 4)) ≡ a
-orders-again = same (λ a. beaconOrderBits (beaconOrderOf (a % 16)) + 16 * superframeOrderBits (superframeOrderOf (bits a 4 4))) (λ a. a) 256 tt
+orders-again = same (λ a. beaconOrderBits (beaconOrderOf (a % 16)) + 16 * superframeOrderBits (superframeOrderOf (bits a 4 4)))
+    (λ a. a) 256 tt
 
 rest-again : (b : ℕ) → b < 256 → b % 16 + 16 * bitOf (bit b 4) + 64 * bitOf (bit b 6) + 128 * bitOf (bit b 7) ≡ clear 5 1 b
 rest-again = same (λ b. b % 16 + 16 * bitOf (bit b 4) + 64 * bitOf (bit b 6) + 128 * bitOf (bit b 7)) (clear 5 1) 256 tt
@@ -37,14 +39,23 @@ module _ (s : List ℕ) (at : ℕ) where
   superframe-fits =
       let a = number s at 1 in
       let b = number s (at + 1) 1 in
-      simp (beacon-order-again (a % 16) (omega arith) .1, superframe-order-again (bits a 4 4) (omega arith) .1, le-ltb 15 (b % 16) (omega arith))
+      simp (
+        beacon-order-again (a % 16) (omega arith) .1,
+        superframe-order-again (bits a 4 4) (omega arith) .1,
+        le-ltb 15 (b % 16) (omega arith),
+      )
 
   pub superframe-again : Bytes s → 2 ≤ length s - at → superframeBytes (superframeIn s at) ≡ superframeListed s at
   unfolding superframeBytes superframeIn superframeListed
   superframe-again b h =
       let a = byte-small s at b (omega arith) in
       let c = byte-small s (at + 1) b (omega arith) in
-      rw (orders-again (number s at 1) a, rest-again (number s (at + 1) 1) c, split-one (number s at 1) a, split-one (clear 5 1 (number s (at + 1) 1)) (omega arith))
+      rw (
+        orders-again (number s at 1) a,
+        rest-again (number s (at + 1) 1) c,
+        split-one (number s at 1) a,
+        split-one (clear 5 1 (number s (at + 1) 1)) (omega arith),
+      )
 
   pub superframe-more : (t : List ℕ) → 2 ≤ length s - at → superframeIn (s ++ t) at ≡ superframeIn s at
   unfolding superframeIn
@@ -63,7 +74,8 @@ superframe-back x p t at f e =
     let half : ordersByte x / 16 ≡ superframeOrderBits (x .«superframe_order») = omega arith in
     let superframe : bits (ordersByte x) 4 4 ≡ superframeOrderBits (x .«superframe_order») = rw half (mod-eq-of-lt (omega arith)) in
     let slot : restByte x % 16 ≡ x .«final_cap_slot» = omega arith in
-    let flags : restByte x / 16 ≡ bitOf (x .«battery_life_extension») + 4 * bitOf (x .«pan_coordinator») + 8 * bitOf (x .«association_permit») = omega arith in
+    let flags : restByte x / 16 ≡ bitOf (x .«battery_life_extension») + 4 * bitOf (x .«pan_coordinator») + 8 * bitOf
+    (x .«association_permit») = omega arith in
     let four : bits (restByte x) 4 1 ≡ bitOf (x .«battery_life_extension») = rw flags (omega arith) in
     let high : restByte x / 64 ≡ bitOf (x .«pan_coordinator») + 2 * bitOf (x .«association_permit») = omega arith in
     let six : bits (restByte x) 6 1 ≡ bitOf (x .«pan_coordinator») = rw high (omega arith) in
@@ -85,7 +97,8 @@ superframe-back x p t at f e =
 
 superframe-bytes : (x : SuperframeSpecification) → Bytes (superframeBytes x)
 unfolding superframeBytes
-superframe-bytes x = bytes-append (split 1 (ordersByte x)) (split 1 (restByte x)) (split-bytes 1 (ordersByte x)) (split-bytes 1 (restByte x))
+superframe-bytes x = bytes-append (split 1 (ordersByte x)) (split 1 (restByte x)) (split-bytes 1 (ordersByte x))
+    (split-bytes 1 (restByte x))
 
 pub superframe-accepts : (s : List ℕ) (at : ℕ) → 2 ≤ length s - at → readSuperframe s at ≡ superframe .accepts (superframeIn s at) 2
 unfolding readSuperframe
@@ -112,7 +125,8 @@ superframe-laws =
             size = refl;
             within = there .1;
             written = superframe-again s at b (there .1) ∙ superframe-listed s at (there .1);
-            behind = λ t. superframe-accepts (s ++ t) at (rw (length-append s t) (omega (arith, there .1))) ∙ ap (λ (x : SuperframeSpecification). superframe .accepts x 2) (superframe-more s at t (there .1));
+            behind = λ t. superframe-accepts (s ++ t) at (rw (length-append s t) (omega (arith, there .1)))
+                ∙ ap (λ (x : SuperframeSpecification). superframe .accepts x 2) (superframe-more s at t (there .1));
           });
       bytes = λ x. superframe-bytes x;
       returned = λ x typed f. record {
@@ -120,7 +134,8 @@ superframe-laws =
         fits = f;
         settled = refl;
         back = λ p t h.
-            superframe-accepts (p ++ (superframeBytes x ++ t)) (length p) (rw (length-append p (superframeBytes x ++ t), length-append (superframeBytes x) t, superframe-length x) (omega arith))
+            superframe-accepts (p ++ (superframeBytes x ++ t)) (length p)
+            (rw (length-append p (superframeBytes x ++ t), length-append (superframeBytes x) t, superframe-length x) (omega arith))
             ∙ ap (λ (x : SuperframeSpecification). superframe .accepts x 2) (superframe-back x p t (length p) f refl);
       };
     }

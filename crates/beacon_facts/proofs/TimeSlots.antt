@@ -18,23 +18,27 @@ use Rattle.octets.proofs.Bits.{bit-back, bit-small}
 use Rattle.octets.proofs.Each.{same}
 use Rattle.octets.proofs.Little.{split-length, split-bytes, bytes-append, number-more}
 use Rattle.seven_places.specs.Seven.{reset, some}
-use Rattle.seven_places.proofs.Seven.{seven-length, seven-same, some-fails}
-use Rattle.time_slot.specs.declared.Direction.{Direction}
-use Rattle.time_slot.specs.declared.Direction.the-variants.{Receive, Transmit}
-use Rattle.time_slot.specs.declared.GuaranteedTimeSlotDescriptor.{GuaranteedTimeSlotDescriptor}
-use Rattle.time_slot.specs.Direction.{directionBit, directionOf}
-use Rattle.time_slot.specs.Descriptor.{emptyDescriptor, descriptorIn, descriptorBytes, descriptorTooLarge}
-use Rattle.time_slot.proofs.Descriptor.{descriptor-length}
+use Rattle.seven_places.proofs.Seven.{seven-length, seven-same, seven-reset, seven-all, span, in-use, reset-in-use, span-fails, some-fails}
+use Rattle.time_slots.specs.declared.Direction.{Direction}
+use Rattle.time_slots.specs.declared.Direction.the-variants.{Receive, Transmit}
+use Rattle.time_slots.specs.declared.GuaranteedTimeSlotDescriptor.{GuaranteedTimeSlotDescriptor}
+use Rattle.time_slots.specs.Direction.{directionBit, directionOf}
+use Rattle.time_slots.specs.Descriptor.{emptyDescriptor, descriptorIn, descriptorBytes, descriptorTooLarge}
+use Rattle.time_slots.proofs.Descriptor.{descriptor-length}
 use Rattle.time_slots.specs.declared.GuaranteedTimeSlotInformation.{GuaranteedTimeSlotInformation}
 use Rattle.time_slots.specs.declared.TimeSlotsRead.{TimeSlotsRead}
-use Rattle.time_slots.specs.TimeSlots.{slotsLength, slotsDemand, slotAt, slotsIn, slotCountIn, timeSlotsIn, timeSlotsLengthIn, readTimeSlots, directionsOf, listBytes, timeSlotsHeader, timeSlotsBytes, timeSlotsSize, timeSlotsTooLarge, writeTimeSlots}
-use Rattle.time_slots.proofs.TimeSlots.{length-some, demand-enough, direction-small, directions-small, list-some, list-length, fitting, time-slots-read}
+use Rattle.time_slots.specs.TimeSlots.{slotsLength, slotsDemand, slotAt, slotsIn, slotCountIn, timeSlotsIn, timeSlotsLengthIn}
+use Rattle.time_slots.specs.TimeSlots.{readTimeSlots, directionsOf, listBytes, timeSlotsHeader, timeSlotsBytes, timeSlotsSize}
+use Rattle.time_slots.specs.TimeSlots.{timeSlotsTooLarge, writeTimeSlots}
+use Rattle.time_slots.proofs.TimeSlots.{length-some, demand-enough, direction-small, directions-small, list-some, list-length, fitting}
+use Rattle.time_slots.proofs.TimeSlots.{time-slots-read}
 use Rattle.beacon_facts.specs.Formats.{timeSlots, DescriptorTyped, TimeSlotsTyped, timeSlotsReset}
 use Rattle.beacon_facts.proofs.Format.{Written, Laws}
 use Rattle.beacon_facts.proofs.Listed.{listListed, timeSlotsListed, time-slots-listed}
 use Rattle.beacon_facts.proofs.Places.{split-one, byte-small, past, past-length, number-first}
-use Rattle.beacon_facts.proofs.Each.{span, in-use, reset-in-use, span-fails, entries-again, entry-place, entry-at, each-bytes, seven-reset, seven-all}
-use Rattle.beacon_facts.proofs.Descriptor.{descriptor-fits, descriptor-again, descriptor-more, descriptor-typed, descriptor-back, descriptor-bytes}
+use Rattle.beacon_facts.proofs.SideBySide.{entries-again, entry-place, entry-at, each-bytes}
+use Rattle.beacon_facts.proofs.Descriptor.{descriptor-fits, descriptor-again, descriptor-more, descriptor-typed, descriptor-back}
+use Rattle.beacon_facts.proofs.Descriptor.{descriptor-bytes}
 
 -- seven slots take 22 bytes
 pub few-length : (n : ℕ) → n ≤ 7 → slotsLength n ≤ 22
@@ -115,7 +119,8 @@ module _ (s : List ℕ) (at : ℕ) where
   slot-more n t there k h = rw (number-more s t at 1 (omega arith)) (descriptor-more s (at + 1 + 3 * k) _ t (omega arith))
 
 -- the slots of a list that was written
-direction-at : (l : List GuaranteedTimeSlotDescriptor) (k : ℕ) (d : GuaranteedTimeSlotDescriptor) → k < length l → bits (directionsOf l) k 1 ≡ directionBit (getD l k d .direction)
+direction-at : (l : List GuaranteedTimeSlotDescriptor) (k : ℕ) (d : GuaranteedTimeSlotDescriptor) → k < length l →
+    bits (directionsOf l) k 1 ≡ directionBit (getD l k d .direction)
 unfolding directionsOf
 direction-at [] k d h = absurd (omega arith)
 direction-at (x ∷ l) zero d h = omega (arith, direction-small (x .direction))
@@ -123,7 +128,8 @@ direction-at (x ∷ l) (suc k) d h =
     let w = directionBit (x .direction) + 2 * directionsOf l in
     let half : w / 2 ^ 1 ≡ directionsOf l = omega (arith, direction-small (x .direction)) in
     let e : suc k ≡ 1 + k = omega arith in
-    let shift : w / 2 ^ suc k ≡ directionsOf l / 2 ^ k = ap (λ (j : ℕ). w / 2 ^ j) e ∙ sym (shr-shr w 1 k) ∙ ap (λ (q : ℕ). q / 2 ^ k) half in
+    let shift : w / 2 ^ suc k ≡ directionsOf l / 2 ^ k =
+    ap (λ (j : ℕ). w / 2 ^ j) e ∙ sym (shr-shr w 1 k) ∙ ap (λ (q : ℕ). q / 2 ^ k) half in
     rw shift (direction-at l k d (omega arith))
 
 module _ (l : List GuaranteedTimeSlotDescriptor) (n : ℕ) (full : length l ≡ 7) (few : n ≤ 7)
@@ -157,9 +163,12 @@ module _ (l : List GuaranteedTimeSlotDescriptor) (n : ℕ) (full : length l ≡ 
           past p (split 1 (directionsOf (take n l))) (flatMap descriptorBytes (take n l)) t,
           entry-place descriptorBytes 3 descriptor-length l n (rw full few) k h emptyDescriptor q t,
         )
-        (descriptor-back (getD l k emptyDescriptor) (q ++ flatMap descriptorBytes (take k l)) (flatMap descriptorBytes (drop (k + 1) (take n l)) ++ t) (at + 1 + 3 * k) (getD l k emptyDescriptor .direction) (typed k (omega arith))
+        (descriptor-back (getD l k emptyDescriptor) (q ++ flatMap descriptorBytes (take k l))
+        (flatMap descriptorBytes (drop (k + 1) (take n l)) ++ t) (at + 1 + 3 * k) (getD l k emptyDescriptor .direction)
+        (typed k (omega arith))
         (some-fails descriptorTooLarge l n k emptyDescriptor (rw full few) h fits)
-        (entry-at descriptorBytes 3 descriptor-length l n (rw full few) k h emptyDescriptor q (at + 1) (past-length p _ at 1 before (split-length 1 _))))
+        (entry-at descriptorBytes 3 descriptor-length l n (rw full few) k h emptyDescriptor q (at + 1)
+        (past-length p _ at 1 before (split-length 1 _))))
 
     pub slot-back : slotAt (p ++ (listBytes (take n l) ++ t)) at k ≡ getD l k emptyDescriptor
     unfolding slotAt
@@ -178,13 +187,15 @@ module _ (x : GuaranteedTimeSlotInformation) (few : x .«slot_count» ≤ 7) whe
       let top : timeSlotsHeader x / 128 ≡ bitOf (x .permit) = omega (arith, bit-small (x .permit)) in
       rw top (ap (λ (b : ℕ). eqb b 1) (mod-eq-of-lt (bit-small (x .permit))) ∙ bit-back (x .permit))
 
-module _ (x : GuaranteedTimeSlotInformation) (typed : TimeSlotsTyped x) (f : timeSlotsTooLarge x ≡ false) (p t : List ℕ) (at : ℕ) (before : length p ≡ at) where
+module _ (x : GuaranteedTimeSlotInformation) (typed : TimeSlotsTyped x) (f : timeSlotsTooLarge x ≡ false) (p t : List ℕ) (at : ℕ)
+    (before : length p ≡ at) where
   abbrev written : List ℕ
   written = p ++ (timeSlotsBytes x ++ t)
 
   header-stored : number written at 1 ≡ timeSlotsHeader x
   unfolding timeSlotsBytes
-  header-stored = number-first p (listBytes (take (x .«slot_count») (x .slots))) at 1 (timeSlotsHeader x) t before (header-byte x (fitting x f .0))
+  header-stored = number-first p (listBytes (take (x .«slot_count») (x .slots))) at 1 (timeSlotsHeader x) t before
+      (header-byte x (fitting x f .0))
 
   pub count-stored : slotCountIn written at ≡ x .«slot_count»
   count-stored = rw header-stored (header-count x (fitting x f .0))
@@ -197,7 +208,8 @@ module _ (x : GuaranteedTimeSlotInformation) (typed : TimeSlotsTyped x) (f : tim
       seven-same (slotAt written (at + 1)) (λ (k : ℕ). getD (x .slots) k emptyDescriptor) emptyDescriptor n
       (λ k h.
       rw (past p (split 1 (timeSlotsHeader x)) (listBytes (take n (x .slots))) t)
-      (slot-back (x .slots) n (typed .0) (fits .0) (typed .1) (fits .1) (p ++ split 1 (timeSlotsHeader x)) t (at + 1) (past-length p _ at 1 before (split-length 1 _)) k h))
+      (slot-back (x .slots) n (typed .0) (fits .0) (typed .1) (fits .1) (p ++ split 1 (timeSlotsHeader x)) t (at + 1)
+      (past-length p _ at 1 before (split-length 1 _)) k h))
 
   pub time-slots-back : timeSlotsIn written at ≡ timeSlotsReset x
   unfolding timeSlotsIn
@@ -215,11 +227,13 @@ module _ (x : GuaranteedTimeSlotInformation) (typed : TimeSlotsTyped x) (f : tim
 list-bytes : (l : List GuaranteedTimeSlotDescriptor) → Bytes (listBytes l)
 unfolding listBytes
 list-bytes [] = tt
-list-bytes (x ∷ l) = bytes-append (split 1 (directionsOf (x ∷ l))) (flatMap descriptorBytes (x ∷ l)) (split-bytes 1 (directionsOf (x ∷ l))) (each-bytes descriptorBytes descriptor-bytes (x ∷ l))
+list-bytes (x ∷ l) = bytes-append (split 1 (directionsOf (x ∷ l))) (flatMap descriptorBytes (x ∷ l)) (split-bytes 1 (directionsOf (x ∷ l)))
+    (each-bytes descriptorBytes descriptor-bytes (x ∷ l))
 
 pub time-slots-bytes : (x : GuaranteedTimeSlotInformation) → Bytes (timeSlotsBytes x)
 unfolding timeSlotsBytes
-time-slots-bytes x = bytes-append (split 1 (timeSlotsHeader x)) (listBytes (take (x .«slot_count») (x .slots))) (split-bytes 1 (timeSlotsHeader x)) (list-bytes (take (x .«slot_count») (x .slots)))
+time-slots-bytes x = bytes-append (split 1 (timeSlotsHeader x)) (listBytes (take (x .«slot_count») (x .slots)))
+    (split-bytes 1 (timeSlotsHeader x)) (list-bytes (take (x .«slot_count») (x .slots)))
 
 -- what stands at a place
 module _ (s : List ℕ) (at : ℕ) where
@@ -243,7 +257,8 @@ module _ (s : List ℕ) (at : ℕ) where
     time-slots-typed b = (
       seven-length (slotAt s (at + 1)) emptyDescriptor (slotCountIn s at),
       seven-all DescriptorTyped (slotAt s (at + 1)) emptyDescriptor (slotCountIn s at) (omega arith)
-          (λ k h. slot-typed s (at + 1) (slotCountIn s at) count-few b (omega (arith, list-there, length-some (slotCountIn s at) (λ e. absurd (omega arith)))) k h),
+          (λ k h. slot-typed s (at + 1) (slotCountIn s at) count-few b
+          (omega (arith, list-there, length-some (slotCountIn s at) (λ e. absurd (omega arith)))) k h),
     )
 
     pub time-slots-again : Bytes s → timeSlotsBytes (timeSlotsIn s at) ≡ timeSlotsListed s at
@@ -266,7 +281,8 @@ module _ (s : List ℕ) (at : ℕ) where
           rw (
             number-more s t at 1 (omega arith),
             seven-same (slotAt (s ++ t) (at + 1)) (slotAt s (at + 1)) emptyDescriptor (slotCountIn s at)
-                (λ k h. slot-more s (at + 1) (slotCountIn s at) t (omega (arith, list-there, length-some (slotCountIn s at) (λ e. absurd (omega arith)))) k h),
+                (λ k h. slot-more s (at + 1) (slotCountIn s at) t
+                (omega (arith, list-there, length-some (slotCountIn s at) (λ e. absurd (omega arith)))) k h),
           )
 
 -- a slot past the count is not looked at
@@ -326,7 +342,8 @@ time-slots-laws =
             let count = count-stored x typed f p t (length p) refl in
             let long = time-slots-length x typed f [] [] 0 refl in
             time-slots-accepts (p ++ (timeSlotsBytes x ++ t)) (length p)
-            (rw (count, length-append p (timeSlotsBytes x ++ t), length-append (timeSlotsBytes x) t, long) (omega (arith, h, demand-enough (x .«slot_count»))))
+            (rw (count, length-append p (timeSlotsBytes x ++ t), length-append (timeSlotsBytes x) t, long)
+            (omega (arith, h, demand-enough (x .«slot_count»))))
             ∙ rw (time-slots-back x typed f p t (length p) refl, count);
       };
     }

@@ -49,7 +49,8 @@ pub beacon-returned : FromRecord beacon
 beacon-returned = beacon-laws .returned
 
 -- an accepted beacon occupies 4 to 96 bytes and never more than the input
-pub beacon-occupies : (s : List ℕ) (at : ℕ) (x : Beacon) (n : ℕ) → readBeacon s at ≡ beacon .accepts x n → (4 ≤ n) × (n ≤ 96) × (at + n ≤ length s)
+pub beacon-occupies : (s : List ℕ) (at : ℕ) (x : Beacon) (n : ℕ) → readBeacon s at ≡ beacon .accepts x n →
+    (4 ≤ n) × (n ≤ 96) × (at + n ≤ length s)
 unfolding beaconLengthIn
 beacon-occupies s at x n e =
     let read = beacon-read s at (ap (λ (r : BeaconRead). r .outcome .number) e) in

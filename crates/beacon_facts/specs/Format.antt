@@ -34,7 +34,8 @@ pub record Rewritten {X R : Type 0} (F : Format X R) (s : List ℕ) (at : ℕ) (
   -- read again, whatever stands before and behind, it is x and as long
   pub again : (p t : List ℕ) → F .spare x ≤ length t → F .read (p ++ (F .bytes x ++ t)) (length p) ≡ F .accepts x n
   -- and a second writing changes nothing
-  pub settled : (p t : List ℕ) → Bytes p → Bytes t → F .spare x ≤ length t → F .cleared (p ++ (F .bytes x ++ t)) (length p) ≡ F .bytes x
+  pub settled : (p t : List ℕ) → Bytes p → Bytes t → F .spare x ≤ length t →
+      F .cleared (p ++ (F .bytes x ++ t)) (length p) ≡ F .bytes x
   -- bytes behind alter nothing
   pub behind : (t : List ℕ) → F .read (s ++ t) at ≡ F .accepts x n
 
@@ -42,7 +43,8 @@ pub record Rewritten {X R : Type 0} (F : Format X R) (s : List ℕ) (at : ℕ) (
 pub record Returned {X R : Type 0} (F : Format X R) (x : X) : Type 0 where
   pub long : length (F .bytes x) ≡ F .size x
   -- read back it is x with its unused places empty, which is written as x is: entries past a count are ignored
-  pub back : (p t : List ℕ) → F .spare x ≤ length t → F .read (p ++ (F .bytes x ++ t)) (length p) ≡ F .accepts (F .reset x) (F .size x)
+  pub back : (p t : List ℕ) → F .spare x ≤ length t →
+      F .read (p ++ (F .bytes x ++ t)) (length p) ≡ F .accepts (F .reset x) (F .size x)
   pub fits : F .tooLarge (F .reset x) ≡ false
   pub settled : F .bytes (F .reset x) ≡ F .bytes x
 

@@ -6,15 +6,15 @@ use Rattle.seven_places.specs.{Seven.reset}
 use Rattle.superframe.specs.{declared.SuperframeSpecification.SuperframeSpecification}
 use Rattle.superframe.specs.{declared.SuperframeRead.SuperframeRead, Superframe.readSuperframe}
 use Rattle.superframe.specs.{Superframe.superframeBytes, Superframe.superframeTooLarge, Superframe.writeSuperframe}
-use Rattle.time_slot.specs.{declared.GuaranteedTimeSlotDescriptor.GuaranteedTimeSlotDescriptor}
-use Rattle.time_slot.specs.{declared.DescriptorRead.DescriptorRead, Descriptor.descriptorOf, Descriptor.emptyDescriptor}
-use Rattle.time_slot.specs.{Descriptor.readDescriptor, Descriptor.descriptorBytes, Descriptor.descriptorTooLarge}
-use Rattle.time_slot.specs.{Descriptor.writeDescriptor}
-use Rattle.time_slot.specs.declared.Direction.the-variants.{Receive}
+use Rattle.time_slots.specs.{declared.GuaranteedTimeSlotDescriptor.GuaranteedTimeSlotDescriptor}
+use Rattle.time_slots.specs.{declared.DescriptorRead.DescriptorRead}
 use Rattle.time_slots.specs.{declared.GuaranteedTimeSlotInformation.GuaranteedTimeSlotInformation}
-use Rattle.time_slots.specs.{declared.TimeSlotsRead.TimeSlotsRead, TimeSlots.slotsLength, TimeSlots.slotsDemand}
+use Rattle.time_slots.specs.{declared.TimeSlotsRead.TimeSlotsRead, Descriptor.descriptorOf, Descriptor.emptyDescriptor}
+use Rattle.time_slots.specs.{Descriptor.readDescriptor, Descriptor.descriptorBytes, Descriptor.descriptorTooLarge}
+use Rattle.time_slots.specs.{Descriptor.writeDescriptor, TimeSlots.slotsLength, TimeSlots.slotsDemand}
 use Rattle.time_slots.specs.{TimeSlots.timeSlotsOf, TimeSlots.readTimeSlots, TimeSlots.timeSlotsBytes}
 use Rattle.time_slots.specs.{TimeSlots.timeSlotsSize, TimeSlots.timeSlotsTooLarge, TimeSlots.writeTimeSlots}
+use Rattle.time_slots.specs.declared.Direction.the-variants.{Receive}
 use Rattle.pending.specs.{declared.PendingAddress.PendingAddress, declared.PendingRead.PendingRead}
 use Rattle.pending.specs.{Addresses.emptyShort, Addresses.emptyExtended, Pending.pendingOf, Pending.readPending}
 use Rattle.pending.specs.{Pending.pendingBytes, Pending.pendingSize, Pending.pendingTooLarge, Pending.writePending}
@@ -110,6 +110,11 @@ pending =
       Typed = PendingTyped;
     }
 
+abbrev pub beaconReset : Beacon → Beacon
+beaconReset x =
+    beaconOf (x .«superframe_spec») (timeSlotsReset (x .«guaranteed_time_slot_info»))
+    (pendingReset (x .«pending_address»))
+
 abbrev pub beacon : Format Beacon BeaconRead
 beacon =
     record {
@@ -121,6 +126,6 @@ beacon =
       size = beaconSize;
       spare = λ x. 0;
       cleared = beaconCleared;
-      reset = λ x. beaconOf (x .«superframe_spec») (timeSlotsReset (x .«guaranteed_time_slot_info»)) (pendingReset (x .«pending_address»));
+      reset = beaconReset;
       Typed = λ x. TimeSlotsTyped (x .«guaranteed_time_slot_info») × PendingTyped (x .«pending_address»);
     }

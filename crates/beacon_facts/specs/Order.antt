@@ -33,4 +33,5 @@ abbrev pub writingTests : {X R : Type 0} → Format X R → X → List ℕ → �
 writingTests F x out at = (F .tooLarge x, 8) ∷ (ends out at (F .size x), 1) ∷ []
 
 abbrev pub Writing : {X R : Type 0} → Format X R → Type 0
-Writing {X} F = (x : X) (out : List ℕ) (at : ℕ) → valueOutcome (F .write x out at) .number ≡ first (writingTests F x out at) 0
+Writing {X} F =
+    (x : X) (out : List ℕ) (at : ℕ) → valueOutcome (F .write x out at) .number ≡ first (writingTests F x out at) 0

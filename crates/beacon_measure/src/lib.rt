@@ -1,27 +1,12 @@
 // Number and length of the beacon at a place of a slice, told by the counts in its two headers. No record is made.
-ghost use Rattle.octets.specs.Words.{_+_, _≤_, _<_, _≡_, length};
-ghost use Rattle.time_slots.specs.TimeSlots.{slotsLength, timeSlotsLengthIn};
+ghost use Rattle.octets.specs.Words.{_+_, _≤_, _≡_, length};
+ghost use Rattle.time_slots.specs.TimeSlots.{timeSlotsLengthIn};
 ghost use Rattle.pending.specs.Pending.{pendingLengthIn};
 ghost use Rattle.beacon.specs.Beacon.{readBeacon};
 use octets::Outcome;
 use octets::left;
 use octets::u8_at;
-
-fn wide(b: u8) -> usize
-    ensures { λ r. ⌜ r ≡ b ⌝ }
-    ensures { λ r. ⌜ r < 256 ⌝ }
-{
-    b as usize
-}
-
-// Bytes of n slots behind their header.
-fn slots_length(n: usize) -> usize
-    requires { ⌜ n < 8 ⌝ }
-    ensures { λ r. ⌜ r ≡ slotsLength n ⌝ }
-    ensures { λ r. ⌜ r ≤ 22 ⌝ }
-{
-    if n == 0 { 0 } else { 1 + 3 * n }
-}
+use time_slots::slots_length;
 
 // Bytes of the GTS information at a place. Asks that its header is there.
 pub fn time_slots_length(s: &[u8], at: usize) -> usize
@@ -29,7 +14,7 @@ pub fn time_slots_length(s: &[u8], at: usize) -> usize
     ensures { λ r. ⌜ r ≡ timeSlotsLengthIn (now (s .entry)) at ⌝ }
     ensures { λ r. ⌜ r ≤ 23 ⌝ }
 {
-    1 + slots_length(wide(u8_at(s, at)) % 8)
+    1 + slots_length((u8_at(s, at) as usize) % 8)
 }
 
 // Bytes of the pending addresses at a place. Asks that their header is there.
@@ -38,7 +23,7 @@ fn pending_length(s: &[u8], at: usize) -> usize
     ensures { λ r. ⌜ r ≡ pendingLengthIn (now (s .entry)) at ⌝ }
     ensures { λ r. ⌜ r ≤ 71 ⌝ }
 {
-    let header = wide(u8_at(s, at));
+    let header = u8_at(s, at) as usize;
     1 + (2 * (header % 8) + 8 * (header / 16 % 8))
 }
 

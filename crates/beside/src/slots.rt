@@ -9,8 +9,8 @@ use crate::text::put_flag;
 use crate::text::put_reading;
 use crate::text::put_rewriting;
 use crate::text::put_u8;
-use time_slot::Direction;
-use time_slot::GuaranteedTimeSlotDescriptor;
+use time_slots::Direction;
+use time_slots::GuaranteedTimeSlotDescriptor;
 use time_slots::GuaranteedTimeSlotInformation;
 
 // Bytes of a descriptor's record, and of the list's.

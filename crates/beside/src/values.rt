@@ -23,7 +23,7 @@ use octets::Outcome;
 use pending::PendingAddress;
 use superframe::BeaconOrder;
 use superframe::SuperframeOrder;
-use time_slot::GuaranteedTimeSlotDescriptor;
+use time_slots::GuaranteedTimeSlotDescriptor;
 use time_slots::GuaranteedTimeSlotInformation;
 
 pub(crate) fn dump_type(bits: u8, out: &mut [u8], at: usize) -> usize {

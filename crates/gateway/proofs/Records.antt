@@ -25,7 +25,7 @@ use Rattle.header.specs.declared.HeaderWritten.the-variants as Header
 use Rattle.header.specs.Record.{headerLength}
 use Rattle.header.specs.Read.{readHeader}
 use Rattle.header.specs.Write.{writeHeader, writtenOutcome, headerBytes}
-use Rattle.header.proofs.Laws.{header-length, written-fits}
+use Rattle.header.proofs.Writing.{header-length, written-fits}
 use Rattle.header_facts.specs.RoundTrip.{cleared, rewritten}
 use Rattle.header_facts.proofs.RoundTrip.{round-trip}
 use Rattle.octets.specs.declared.ValueWritten.{ValueWritten}
@@ -55,27 +55,28 @@ header-into s out h n Header.Compression b e w = refl
 header-into s out h n Header.MissingCounter b e w = refl
 
 -- what the writer answers and leaves is what rewriting says of the two slices
-pub header-rewritten : (s out last : List ℕ) (h : Header) (n : ℕ) (counter : OptionalCounter) (r : HeaderWritten) → Bytes s → readHeader s ≡ HeaderRead.Read h n →
+pub header-rewritten : (s out last : List ℕ) (h : Header) (n : ℕ) (counter : OptionalCounter) (r : HeaderWritten) → Bytes s →
+    readHeader s ≡ HeaderRead.Read h n →
     counter ≡ counterRead (h .«auxiliary_security_header») → r ≡ writeHeader h counter (length out) →
     last ≡ after (writtenOutcome r) out 0 (headerBytes h (counterOf counter)) →
     (writtenOutcome r ≡ rewriteHeader s (length out)) × (last ≡ headerInto s out)
 unfolding rewriteHeader headerInto
 header-rewritten s out last h n counter r b e c w l =
-    let told : writeHeader h (counterRead (h .«auxiliary_security_header»)) (length out) ≡ r = sym (w ∙ ap (λ (k : OptionalCounter). writeHeader h k (length out)) c) in
-    let whole : last ≡ after (writtenOutcome r) out 0 (rewritten h) = l ∙ ap (λ (k : OptionalCounter). after (writtenOutcome r) out 0 (headerBytes h (counterOf k))) c in
+    let told : writeHeader h (counterRead (h .«auxiliary_security_header»)) (length out) ≡ r =
+    sym (w ∙ ap (λ (k : OptionalCounter). writeHeader h k (length out)) c) in
+    let whole : last ≡ after (writtenOutcome r) out 0 (rewritten h) =
+    l ∙ ap (λ (k : OptionalCounter). after (writtenOutcome r) out 0 (headerBytes h (counterOf k))) c in
     rw (e, told) (refl, whole ∙ header-into s out h n r b e told)
 
 abbrev accepting : ValueWritten → Bool
 accepting r = eqb (valueOutcome r .number) 0
 
-same : (m n : ℕ) → Written m ≡ Written n → m ≡ n
-same m n e = cc
-
 -- a part that is written somewhere is free of refusal 8, and as long as that
 free : (large : Bool) (out : List ℕ) (at m n : ℕ) → writeValue large out at m ≡ Written n → (large ≡ false) × (m ≡ n)
 free large out at m n e =
     let q = none-holds accepting ((large, TooLarge) ∷ (ends out at m, Full) ∷ []) (Written m) (refl, (refl, tt)) (ap accepting e) in
-    (q .0 .0, same m n (sym (q .1) ∙ e))
+    let same : Written m ≡ Written n = sym (q .1) ∙ e in
+    (q .0 .0, cc)
 
 -- a beacon that was read, written again into an output
 module _ (s out : List ℕ) (b : Bytes s) (read : readBeacon s 0 .outcome .number ≡ 0) where

@@ -11,13 +11,14 @@ use beacon_measure::time_slots_length;
 use clearing::clear_header;
 use clearing::clear_pending;
 use clearing::clear_slots;
-use clearing::copy;
 use header_measure::lacks_source;
 use header_measure::measure_header;
 use octets::Outcome;
+use octets::copy;
 use octets::u8_at;
 use octets::u16_at;
 
+// The one number of an outcome.
 fn code(outcome: Outcome) -> usize
     ensures { λ r. ⌜ r ≡ codeOf outcome ⌝ }
 {
@@ -68,12 +69,12 @@ fn rewriting(frame: &[u8], room: usize) -> Outcome
 }
 
 // Copies the n bytes of a header and clears the listed bits. Asks that rewriting accepts it with that length.
-fn put_header(frame: &[u8], out: &mut [u8], n: usize)
+fn put_header(frame: &[u8], n: usize, out: &mut [u8])
     requires { ⌜ rewriteHeader (now frame) (length (now out)) ≡ accepted n ⌝ }
     ensures { λ r. ⌜ now (out .exit) ≡ headerInto (now (frame .entry)) (now (out .entry)) ⌝ }
 {
-    copy(frame, n, out);
-    clear_header(out, u16_at(frame, 0) as usize);
+    copy(&frame[..n], out, 0);
+    clear_header(u16_at(frame, 0) as usize, out);
 }
 
 // Rewrites a header, as reading it and writing it again with the counter that was read does; refused, out keeps every
@@ -87,17 +88,17 @@ pub extern "C" fn knobtangle_rewrite_header(frame: &[u8], out: &mut [u8]) -> usi
     if outcome.number != 0 {
         return code(outcome);
     }
-    put_header(frame, out, outcome.length);
+    put_header(frame, outcome.length, out);
     outcome.length
 }
 
 // Copies the n bytes of a beacon and clears the listed bits. Asks that rewriting accepts it with that length.
-fn put_beacon(content: &[u8], out: &mut [u8], n: usize)
+fn put_beacon(content: &[u8], n: usize, out: &mut [u8])
     requires { ⌜ rewriteBeacon (now content) (now out) ≡ accepted n ⌝ }
     ensures { λ r. ⌜ now (out .exit) ≡ beaconInto (now (content .entry)) (now (out .entry)) ⌝ }
 {
-    copy(content, n, out);
-    clear_slots(out, u8_at(content, 2) % 8);
+    copy(&content[..n], out, 0);
+    clear_slots(u8_at(content, 2) % 8, out);
     clear_pending(out, 2 + time_slots_length(content, 2));
 }
 
@@ -114,6 +115,6 @@ pub extern "C" fn knobtangle_rewrite_beacon(content: &[u8], out: &mut [u8]) -> u
     if out.len() < outcome.length {
         return code(Outcome::refused(1));
     }
-    put_beacon(content, out, outcome.length);
+    put_beacon(content, outcome.length, out);
     outcome.length
 }

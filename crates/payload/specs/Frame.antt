@@ -1,6 +1,7 @@
--- The payload view, document 01: "reads a header and, for an unsecured Beacon, the beacon, then hands back the rest of
--- the caller's slice. On refusal, of header or beacon, that number and the slice's empty beginning. A secured beacon's
--- content is not read."
+-- The payload view, document 01, "Payload view and C entry points": "The payload view reads a header and, for an
+-- unsecured Beacon, the beacon, then hands back the rest of the caller's slice, possibly empty, with no byte copied. On
+-- refusal, of header or beacon, it returns that number and the slice's empty beginning. A secured beacon's content is
+-- not read."
 use Rattle.octets.specs.Words.{ℕ, _+_, Bool, false, cond, List, [], eqb, drop}
 use Rattle.octets.specs.{declared.Outcome.Outcome, Outcome.accepted, Outcome.refused}
 use Rattle.frame_control.specs.{Types.typeBits}
@@ -25,9 +26,13 @@ frameOf outcome header beacon = record { outcome = outcome; header = header; bea
 abbrev pub behindBeacon : ℕ → Outcome → Outcome
 behindBeacon at o = cond (eqb (o .number) 0) (accepted (at + o .length)) (refused (o .number))
 
+abbrev pub frameBehind : BeaconRead → HeaderRead → ℕ → FrameRead
+frameBehind beacon header at = frameOf (behindBeacon at (beacon .outcome)) header beacon
+
 abbrev pub frameAfter : List ℕ → HeaderRead → FrameRead
 frameAfter s (Refused r) = frameOf (refused (readNumber r)) (Refused r) unread
-frameAfter s (Read h n) = cond (opens h) (frameOf (behindBeacon n (readBeacon s n .outcome)) (Read h n) (readBeacon s n)) (frameOf (accepted n) (Read h n) unread)
+frameAfter s (Read h n) =
+    cond (opens h) (frameBehind (readBeacon s n) (Read h n) n) (frameOf (accepted n) (Read h n) unread)
 
 unfoldable pub readFrame : List ℕ → FrameRead
 readFrame s = frameAfter s (readHeader s)

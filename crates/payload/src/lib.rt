@@ -2,7 +2,7 @@
 // own slice.
 ghost use Rattle.octets.specs.Words.{_≤_, _≡_, length};
 ghost use Rattle.beacon.specs.Beacon.{readBeacon};
-ghost use Rattle.payload.specs.Frame.{opens, unread, frameOf, behindBeacon, readFrame, payloadOf};
+ghost use Rattle.payload.specs.Frame.{opens, unread, frameOf, frameBehind, readFrame, payloadOf};
 use beacon::Beacon;
 use beacon::BeaconRead;
 use header::Header;
@@ -31,25 +31,19 @@ fn opens(header: Header) -> bool
 // The beacon that stands in front of the payload, and where the payload begins or why it does not.
 fn with_beacon(frame: &[u8], header: HeaderRead, at: usize) -> FrameRead
     requires { ⌜ at ≤ length (now frame) ⌝ }
-    ensures { λ r. ⌜ r ≡ frameOf (behindBeacon at (readBeacon (now (frame .entry)) at .outcome)) header (readBeacon (now (frame .entry)) at) ⌝ }
+    ensures { λ r. ⌜ r ≡ frameBehind (readBeacon (now (frame .entry)) at) header at ⌝ }
 {
     let beacon = Beacon::read(frame, at);
     let read = beacon.outcome;
     if read.number == 0 {
         return FrameRead {
-            outcome: Outcome {
-                number: 0,
-                length: at + read.length,
-            },
+            outcome: Outcome::accepted(at + read.length),
             header,
             beacon,
         };
     }
     FrameRead {
-        outcome: Outcome {
-            number: read.number,
-            length: 0,
-        },
+        outcome: Outcome::refused(read.number),
         header,
         beacon,
     }
@@ -61,10 +55,7 @@ fn without_beacon(outcome: Outcome, header: HeaderRead) -> FrameRead
 {
     let empty = Beacon::new();
     let beacon = BeaconRead {
-        outcome: Outcome {
-            number: 0,
-            length: 0,
-        },
+        outcome: Outcome::accepted(0),
         beacon: empty,
     };
     FrameRead {

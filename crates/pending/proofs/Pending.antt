@@ -16,11 +16,14 @@ use Rattle.pending.specs.Pending.{pendingIn, pendingLengthIn, readPendin
 -- each count is at most seven
 pub fitting : (x : PendingAddress) → pendingTooLarge x ≡ false → (x .«short_address_count» ≤ 7) × (x .«extended_address_count» ≤ 7)
 unfolding pendingTooLarge
-fitting x e = let both = neither _ _ e in (ltb-false 7 (x .«short_address_count») (both .0), ltb-false 7 (x .«extended_address_count») (both .1))
+fitting x e =
+    let both = neither _ _ e in
+    (ltb-false 7 (x .«short_address_count») (both .0), ltb-false 7 (x .«extended_address_count») (both .1))
 
 -- what is read was there
 pub pending-read : (s : List ℕ) (at : ℕ) → readPending s at .outcome .number ≡ 0 →
-    (readPending s at ≡ record { outcome = accepted (pendingLengthIn s at); «pending_address» = pendingIn s at }) × (pendingLengthIn s at ≤ length s - at)
+    (readPending s at ≡ record { outcome = accepted (pendingLengthIn s at); «pending_address» = pendingIn s at })
+    × (pendingLengthIn s at ≤ length s - at)
 unfolding readPending
 pending-read s at e =
     cases (holds? (ends s at 1)) (λ t. absurd (omega (arith, simp t at e))) (λ t.

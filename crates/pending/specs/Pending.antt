@@ -1,6 +1,6 @@
 -- Pending addresses, document 01, "Beacon layout" (IEEE 802.15.4-2011, 5.2.2.1.6 and 5.2.2.1.7). Header: short count
 -- bits 0-2, extended count 4-6; short addresses first.
-use Rattle.octets.specs.Words.{ℕ, _+_, _*_, _%_, Bool, _||_, List, [], _∷_, _++_, flatMap, ltb, take}
+use Rattle.octets.specs.Words.{ℕ, _+_, _*_, _%_, Bool, _||_, List, [], _∷_, _++_, flatMap, ltb, take, replicate}
 use Rattle.octets.specs.{declared.ValueWritten.ValueWritten, Bits.bits, Little.number, Little.split, Order.first}
 use Rattle.octets.specs.{Outcome.accepted, Outcome.refused, Part.ends, Value.writeValue}
 use Rattle.identifiers.specs.{declared.ShortAddress.ShortAddress, declared.ExtendedAddress.ExtendedAddress}
@@ -14,12 +14,15 @@ addressesLength shorts extendeds = 2 * shorts + 8 * extendeds
 
 abbrev pub pendingOf : ℕ → List ShortAddress → ℕ → List ExtendedAddress → PendingAddress
 pendingOf m shorts n extendeds =
-    record { «short_address_count» = m; «short_addresses» = shorts; «extended_address_count» = n; «extended_addresses» = extendeds }
+    record {
+      «short_address_count» = m;
+      «short_addresses» = shorts;
+      «extended_address_count» = n;
+      «extended_addresses» = extendeds;
+    }
 
 abbrev pub emptyPending : PendingAddress
-emptyPending =
-    pendingOf 0 (emptyShort ∷ emptyShort ∷ emptyShort ∷ emptyShort ∷ emptyShort ∷ emptyShort ∷ emptyShort ∷ [])
-    0 (emptyExtended ∷ emptyExtended ∷ emptyExtended ∷ emptyExtended ∷ emptyExtended ∷ emptyExtended ∷ emptyExtended ∷ [])
+emptyPending = pendingOf 0 (replicate 7 emptyShort) 0 (replicate 7 emptyExtended)
 
 -- the counts in the header at a place, and all that stands there
 abbrev pub shortCountIn : List ℕ → ℕ → ℕ

@@ -5,7 +5,8 @@ ghost use Rattle.octets.specs.Words.{_+_, _-_, _*_, _≤_, false, _++_, flatMap
 ghost use Rattle.octets.specs.Buffer.{laid, after};
 ghost use Rattle.octets.specs.Value.{valueOutcome};
 ghost use Rattle.pending.specs.Addresses.{shortsIn, extendedsIn, shortBytes, extendedBytes};
-ghost use Rattle.pending.specs.Pending.{addressesLength, emptyPending, pendingRefused, readPending, pendingHeader, pendingBytes, pendingSize, pendingTooLarge, writePending};
+ghost use Rattle.pending.specs.Pending.{addressesLength, emptyPending, pendingRefused, readPending};
+ghost use Rattle.pending.specs.Pending.{pendingHeader, pendingBytes, pendingSize, pendingTooLarge, writePending};
 use identifiers::ExtendedAddress;
 use identifiers::ShortAddress;
 use octets::Outcome;
@@ -80,7 +81,8 @@ fn put_extendeds(addresses: [ExtendedAddress; 7], n: usize, out: &mut [u8], at: 
     at + 8 * n
 }
 
-// Stores what follows the header: the first m short addresses, then the first n extended ones. Asks as above.
+// Stores what follows the header: the first m short addresses, then the first n extended ones. Asks for at most seven
+// of each, and for that room.
 fn put_lists(
     shorts: [ShortAddress; 7],
     m: usize,
@@ -93,12 +95,14 @@ fn put_lists(
     requires { ⌜ n ≤ 7 ⌝ }
     requires { ⌜ addressesLength m n ≤ length (now out) - at ⌝ }
     ensures { λ r. ⌜ r ≡ at + addressesLength m n ⌝ }
-    ensures { λ r. ⌜ now (out .exit) ≡ laid (now (out .entry)) at (flatMap shortBytes (take m shorts) ++ flatMap extendedBytes (take n extendeds)) ⌝ }
+    ensures { λ r. ⌜ now (out .exit) ≡ laid (now (out .entry)) at
+        (flatMap shortBytes (take m shorts) ++ flatMap extendedBytes (take n extendeds)) ⌝ }
 {
     let next = put_shorts(shorts, m, out, at);
     put_extendeds(extendeds, n, out, next)
 }
 
+// The two lists.
 pub struct PendingAddress {
     // How many places of each array are in use, at most 7 in a record that can be written.
     pub short_address_count: usize,
@@ -119,10 +123,7 @@ impl PendingRead {
     {
         let pending_address = PendingAddress::new();
         PendingRead {
-            outcome: Outcome {
-                number: 1,
-                length: 0,
-            },
+            outcome: Outcome::refused(1),
             pending_address,
         }
     }
@@ -143,6 +144,7 @@ impl PendingAddress {
         }
     }
 
+    // Reads them at a place: refusal 1 where their bytes are not all there.
     pub fn read(s: &[u8], at: usize) -> PendingRead
         ensures { λ r. ⌜ r ≡ readPending (now (s .entry)) at ⌝ }
     {
@@ -159,7 +161,7 @@ impl PendingAddress {
         let short_addresses = shorts_at(s, at + 1, shorts);
         let extended_addresses = extendeds_at(s, at + 1 + 2 * shorts, extendeds);
         PendingRead {
-            outcome: Outcome { number: 0, length },
+            outcome: Outcome::accepted(length),
             pending_address: PendingAddress {
                 short_address_count: shorts,
                 short_addresses,
@@ -218,6 +220,7 @@ impl PendingAddress {
         )
     }
 
+    // Writes them at a place; refused, out keeps every byte.
     pub fn write(self, out: &mut [u8], at: usize) -> ValueWritten
         ensures { λ r. ⌜ r ≡ writePending self (now (out .entry)) at ⌝ }
         ensures { λ r. ⌜ now (out .exit) ≡ after (valueOutcome r) (now (out .entry)) at (pendingBytes self) ⌝ }

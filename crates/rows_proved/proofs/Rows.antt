@@ -16,15 +16,17 @@ use Rattle.header.specs.Read.{securityPart, readRest, readFields, readHeader}
 use Rattle.header.specs.Write.{writeHeader, headerBytes}
 use Rattle.seven_places.specs.Seven.{seven, some}
 use Rattle.superframe.specs.Superframe.{superframeIn, readSuperframe, superframeBytes, superframeTooLarge}
-use Rattle.time_slot.specs.Descriptor.{descriptorIn, descriptorBytes, descriptorTooLarge}
-use Rattle.time_slots.specs.TimeSlots.{slotAt, timeSlotsIn, readTimeSlots, directionsOf, listBytes, timeSlotsBytes, timeSlotsTooLarge, writeTimeSlots}
+use Rattle.time_slots.specs.Descriptor.{descriptorIn, descriptorBytes, descriptorTooLarge}
+use Rattle.time_slots.specs.TimeSlots.{slotAt, timeSlotsIn, readTimeSlots, directionsOf, listBytes, timeSlotsBytes, timeSlotsTooLarge}
+use Rattle.time_slots.specs.TimeSlots.{writeTimeSlots}
 use Rattle.pending.specs.Pending.{pendingIn, readPending, pendingBytes, pendingTooLarge}
 use Rattle.beacon.specs.Beacon.{beaconIn, beaconLengthIn, readBeacon, beaconBytes, beaconTooLarge, writeBeacon}
 use Rattle.rows_proved.specs.Rows.{Asked, Seen, seen, rows}
 
 pub as-listed : map (λ (row : Asked × Seen). seen (row .0)) rows ≡ map (λ (row : Asked × Seen). row .1) rows
-unfolding join split number typeOf versionOf modeOf controlIn controlBits addressIn addressBytes keyModeOf keyIn keyBytes securityIn securityBytes readSecurity
-    securityPart readRest readFields readHeader writeHeader headerBytes readBeacon beaconIn beaconLengthIn beaconBytes beaconTooLarge writeBeacon
-    readSuperframe superframeIn superframeBytes superframeTooLarge readTimeSlots timeSlotsIn timeSlotsBytes timeSlotsTooLarge writeTimeSlots listBytes
-    directionsOf slotAt descriptorIn descriptorBytes descriptorTooLarge readPending pendingIn pendingBytes pendingTooLarge seven some flatMap
+unfolding join split number typeOf versionOf modeOf controlIn controlBits addressIn addressBytes keyModeOf keyIn keyBytes securityIn
+    securityBytes readSecurity securityPart readRest readFields readHeader writeHeader headerBytes readBeacon beaconIn beaconLengthIn
+    beaconBytes beaconTooLarge writeBeacon readSuperframe superframeIn superframeBytes superframeTooLarge readTimeSlots timeSlotsIn
+    timeSlotsBytes timeSlotsTooLarge writeTimeSlots listBytes directionsOf slotAt descriptorIn descriptorBytes descriptorTooLarge
+    readPending pendingIn pendingBytes pendingTooLarge seven some flatMap
 as-listed = refl

@@ -1,8 +1,8 @@
 -- Document 01, "Frames to try", rows P1 to P13: what reading a header, a beacon or a GTS field answers, its record, its
 -- lengths, and what writing it again gives.
 use Rattle.octets.specs.Words.{ℕ, Bool, true, false, cond, List, [], _∷_, eqb, replicate}
-use Rattle.key_identifier.specs.{declared.OptionalKeySource.OptionalKeySource, Key.keyOf}
 use Rattle.octets.specs.{declared.Outcome.Outcome, Outcome.accepted, Outcome.refused, Value.valueOutcome}
+use Rattle.key_identifier.specs.{declared.OptionalKeySource.OptionalKeySource, Key.keyOf}
 use Rattle.frame_control.specs.{declared.FrameType.FrameType}
 use Rattle.frame_control.specs.declared.FrameVersion.the-variants.{Ieee802154_2003}
 use Rattle.identifiers.specs.{PanId.pan, ShortAddress.short}
@@ -19,11 +19,11 @@ use Rattle.header_facts.specs.{RoundTrip.rewritten}
 use Rattle.superframe.specs.{declared.SuperframeSpecification.SuperframeSpecification}
 use Rattle.superframe.specs.declared.BeaconOrder.the-variants.{BeaconOrder}
 use Rattle.superframe.specs.declared.SuperframeOrder.the-variants.{SuperframeOrder}
-use Rattle.time_slot.specs.{Descriptor.descriptorOf, Descriptor.emptyDescriptor}
-use Rattle.time_slot.specs.declared.Direction.the-variants.{Transmit}
 use Rattle.time_slots.specs.{declared.GuaranteedTimeSlotInformation.GuaranteedTimeSlotInformation}
-use Rattle.time_slots.specs.{declared.TimeSlotsRead.TimeSlotsRead, TimeSlots.timeSlotsOf, TimeSlots.readTimeSlots}
-use Rattle.time_slots.specs.{TimeSlots.timeSlotsBytes, TimeSlots.writeTimeSlots}
+use Rattle.time_slots.specs.{declared.TimeSlotsRead.TimeSlotsRead, Descriptor.descriptorOf, Descriptor.emptyDescriptor}
+use Rattle.time_slots.specs.{TimeSlots.timeSlotsOf, TimeSlots.readTimeSlots, TimeSlots.timeSlotsBytes}
+use Rattle.time_slots.specs.{TimeSlots.writeTimeSlots}
+use Rattle.time_slots.specs.declared.Direction.the-variants.{Transmit}
 use Rattle.pending.specs.{Pending.emptyPending}
 use Rattle.beacon.specs.{declared.Beacon.Beacon, declared.BeaconRead.BeaconRead, Beacon.beaconOf, Beacon.readBeacon}
 use Rattle.beacon.specs.{Beacon.beaconBytes, Beacon.writeBeacon}
@@ -63,7 +63,9 @@ abbrev outcomeSeen : Outcome → (ℕ → Seen) → Seen
 outcomeSeen o accepted = cond (eqb (o .number) 0) (accepted (o .length)) (refusal (o .number))
 
 abbrev pub beaconSeen : BeaconRead → Seen
-beaconSeen r = outcomeSeen (r .outcome) (λ n. beacon (r .beacon) n (beaconAgain (r .beacon) n) (bytesOf (beaconAgain (r .beacon) n) (beaconBytes (r .beacon))))
+beaconSeen r =
+    let x = r .beacon in
+    outcomeSeen (r .outcome) (λ n. beacon x n (beaconAgain x n) (bytesOf (beaconAgain x n) (beaconBytes x)))
 
 abbrev pub slotsSeen : TimeSlotsRead → Seen
 slotsSeen r =
@@ -76,7 +78,8 @@ seen (beacon? s) = beaconSeen (readBeacon s 0)
 seen (slots? s) = slotsSeen (readTimeSlots s 0)
 
 -- the records of the rows: version 0, no pending data and no acknowledgement asked for
-abbrev pub plain : FrameType → (compress suppress elements : Bool) → ℕ → OptionalAddress → OptionalAddress → OptionalSecurityHeader → Header
+abbrev pub plain : FrameType → (compress suppress elements : Bool) → ℕ →
+    (destination source : OptionalAddress) → OptionalSecurityHeader → Header
 plain kind compress suppress elements seq destination source security =
     record {
       «frame_type» = kind;
@@ -95,6 +98,16 @@ plain kind compress suppress elements seq destination source security =
 abbrev pub at16 : ℕ → ℕ → OptionalAddress
 at16 p a = OptionalAddress.Present (Short (pan p) (short a))
 
+abbrev pub nobody : OptionalAddress
+nobody = OptionalAddress.Absent
+
+abbrev pub unsecured : OptionalSecurityHeader
+unsecured = OptionalSecurityHeader.Absent
+
+-- level 5, a key's index and no source of it
+abbrev pub levelFive : OptionalSecurityHeader
+levelFive = OptionalSecurityHeader.Present (securityOf (controlOf 5 KeyIndex) 1 (keyOf OptionalKeySource.Absent 7))
+
 abbrev pub p7 : List ℕ
 p7 = 0x41 ∷ 0x88 ∷ 0x07 ∷ 0x34 ∷ 0x12 ∷ 0x01 ∷ 0x00 ∷ 0x02 ∷ 0x00 ∷ []
 
@@ -112,9 +125,7 @@ ordersSixFour =
 
 -- permit, one Transmit slot of device 2, start 5, length 3
 abbrev pub oneSlot : GuaranteedTimeSlotInformation
-oneSlot =
-    timeSlotsOf true 1
-    (descriptorOf (short 2) 5 3 Transmit ∷ emptyDescriptor ∷ emptyDescriptor ∷ emptyDescriptor ∷ emptyDescriptor ∷ emptyDescriptor ∷ emptyDescriptor ∷ [])
+oneSlot = timeSlotsOf true 1 (descriptorOf (short 2) 5 3 Transmit ∷ replicate 6 emptyDescriptor)
 
 abbrev pub rows : List (Asked × Seen)
 rows =
@@ -123,7 +134,8 @@ rows =
     -- P2
     (
       header? (0x00 ∷ 0x00 ∷ 0x05 ∷ []),
-      header (plain FrameType.Beacon false false false 5 OptionalAddress.Absent OptionalAddress.Absent OptionalSecurityHeader.Absent) 3 3 (accepted 3) (0x00 ∷ 0x00 ∷ 0x05 ∷ []),
+      header (plain FrameType.Beacon false false false 5 nobody nobody unsecured) 3 3 (accepted 3)
+          (0x00 ∷ 0x00 ∷ 0x05 ∷ []),
     ) ∷
     -- P3: version 3, though type 4 too
     (header? (0x04 ∷ 0x30 ∷ 0x00 ∷ []), refusal 2) ∷
@@ -134,31 +146,37 @@ rows =
     -- P6: compression without a destination, though no source bytes follow
     (header? (0x41 ∷ 0x80 ∷ 0x00 ∷ []), refusal 5) ∷
     -- P7: nine bytes, where the Rust crate's number is 11
-    (header? p7, header (plain FrameType.Data true false false 7 (at16 0x1234 1) (at16 0x1234 2) OptionalSecurityHeader.Absent) 9 11 (accepted 9) p7) ∷
+    (
+      header? p7,
+      header (plain FrameType.Data true false false 7 (at16 0x1234 1) (at16 0x1234 2) unsecured) 9 11 (accepted 9) p7,
+    ) ∷
     -- P8: P7 less its last byte
     (header? (0x41 ∷ 0x88 ∷ 0x07 ∷ 0x34 ∷ 0x12 ∷ 0x01 ∷ 0x00 ∷ 0x02 ∷ []), refusal 1) ∷
     -- P9: compression without a source is read, and writing it is refused with 6
     (
       header? (0x41 ∷ 0x08 ∷ 0x07 ∷ 0x34 ∷ 0x12 ∷ 0x01 ∷ 0x00 ∷ []),
-      header (plain FrameType.Data true false false 7 (at16 0x1234 1) OptionalAddress.Absent OptionalSecurityHeader.Absent) 7 7 (refused 6) [],
+      header (plain FrameType.Data true false false 7 (at16 0x1234 1) nobody unsecured) 7 7 (refused 6) [],
     ) ∷
     -- P10: bits 7, 8 and 9 set, rewritten as P7
     (
       header? (0xC1 ∷ 0x8B ∷ 0x07 ∷ 0x34 ∷ 0x12 ∷ 0x01 ∷ 0x00 ∷ 0x02 ∷ 0x00 ∷ []),
-      header (plain FrameType.Data true true true 7 (at16 0x1234 1) (at16 0x1234 2) OptionalSecurityHeader.Absent) 9 11 (accepted 9) p7,
+      header (plain FrameType.Data true true true 7 (at16 0x1234 1) (at16 0x1234 2) unsecured) 9 11 (accepted 9) p7,
     ) ∷
     -- P11: security control bits 5 to 7 set, rewritten with 0D for ED
     (
       header? (0x09 ∷ 0x00 ∷ 0x01 ∷ 0xED ∷ 0x01 ∷ 0x00 ∷ 0x00 ∷ 0x00 ∷ 0x07 ∷ []),
-      header (plain FrameType.Data false false false 1 OptionalAddress.Absent OptionalAddress.Absent (OptionalSecurityHeader.Present (securityOf (controlOf 5 KeyIndex) 1 (keyOf OptionalKeySource.Absent 7)))) 9 3 (accepted 9)
+      header (plain FrameType.Data false false false 1 nobody nobody levelFive) 9 3 (accepted 9)
           (0x09 ∷ 0x00 ∷ 0x01 ∷ 0x0D ∷ 0x01 ∷ 0x00 ∷ 0x00 ∷ 0x00 ∷ 0x07 ∷ []),
     ) ∷
     -- P12: one direction bit of a slot that is there, seven of slots that are not
     (
       beacon? (0x46 ∷ 0xCF ∷ 0x81 ∷ 0xFF ∷ 0x02 ∷ 0x00 ∷ 0x35 ∷ 0x00 ∷ []),
-      beacon (beaconOf ordersSixFour oneSlot emptyPending) 8 (accepted 8) (0x46 ∷ 0xCF ∷ 0x81 ∷ 0x01 ∷ 0x02 ∷ 0x00 ∷ 0x35 ∷ 0x00 ∷ []),
+      beacon (beaconOf ordersSixFour oneSlot emptyPending) 8 (accepted 8)
+          (0x46 ∷ 0xCF ∷ 0x81 ∷ 0x01 ∷ 0x02 ∷ 0x00 ∷ 0x35 ∷ 0x00 ∷ []),
     ) ∷
     -- P13: a GTS field alone wants to see one byte more than it takes
-    (slots? (0x81 ∷ 0x01 ∷ 0x02 ∷ 0x00 ∷ 0x35 ∷ []), refusal 1) ∷
-    (slots? (0x81 ∷ 0x01 ∷ 0x02 ∷ 0x00 ∷ 0x35 ∷ 0x00 ∷ []), slots oneSlot 5 (accepted 5) (0x81 ∷ 0x01 ∷ 0x02 ∷ 0x00 ∷ 0x35 ∷ [])) ∷
+    (slots? (0x81 ∷ 0x01 ∷ 0x02 ∷ 0x00 ∷ 0x35 ∷ []), refusal 1) ∷ (
+      slots? (0x81 ∷ 0x01 ∷ 0x02 ∷ 0x00 ∷ 0x35 ∷ 0x00 ∷ []),
+      slots oneSlot 5 (accepted 5) (0x81 ∷ 0x01 ∷ 0x02 ∷ 0x00 ∷ 0x35 ∷ []),
+    ) ∷
     []

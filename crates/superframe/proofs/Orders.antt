@@ -11,7 +11,8 @@ use Rattle.superframe.specs.declared.BeaconOrder.{BeaconOrder}
 use Rattle.superframe.specs.declared.BeaconOrder.the-variants as Beacon
 use Rattle.superframe.specs.declared.SuperframeOrder.{SuperframeOrder}
 use Rattle.superframe.specs.declared.SuperframeOrder.the-variants as Superframe
-use Rattle.superframe.specs.Orders.{beaconOrderOf, beaconOrderBits, beaconOrderTooLarge, superframeOrderOf, superframeOrderBits, superframeOrderTooLarge}
+use Rattle.superframe.specs.Orders.{beaconOrderOf, beaconOrderBits, beaconOrderTooLarge, superframeOrderOf, superframeOrderBits}
+use Rattle.superframe.specs.Orders.{superframeOrderTooLarge}
 
 -- an order that is not too large has four bits
 pub beacon-order-small : (o : BeaconOrder) → beaconOrderTooLarge o ≡ false → beaconOrderBits o ≤ 15
@@ -38,7 +39,8 @@ beacon-order-again n h =
     (λ e. simp e (refl, le-ltb 14 n (omega (arith, ltb-true n 15 e))))
     (λ e. simp e (omega (arith, ltb-false n 15 e), refl))
 
-pub superframe-order-again : (n : ℕ) → n ≤ 15 → (superframeOrderBits (superframeOrderOf n) ≡ n) × (superframeOrderTooLarge (superframeOrderOf n) ≡ false)
+pub superframe-order-again : (n : ℕ) → n ≤ 15 → (superframeOrderBits (superframeOrderOf n) ≡ n)
+    × (superframeOrderTooLarge (superframeOrderOf n) ≡ false)
 superframe-order-again n h =
     cases (holds? (ltb n 15))
     (λ e. simp e (refl, le-ltb 14 n (omega (arith, ltb-true n 15 e))))

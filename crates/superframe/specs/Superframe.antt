@@ -50,14 +50,20 @@ ordersByte x = beaconOrderBits (x .«beacon_order») + 16 * superframeOrderBits 
 
 abbrev pub restByte : SuperframeSpecification → ℕ
 restByte x =
-    x .«final_cap_slot» + 16 * bitOf (x .«battery_life_extension») + 64 * bitOf (x .«pan_coordinator») + 128 * bitOf (x .«association_permit»)
+    x .«final_cap_slot»
+    + 16 * bitOf (x .«battery_life_extension»)
+    + 64 * bitOf (x .«pan_coordinator»)
+    + 128 * bitOf (x .«association_permit»)
 
 unfoldable pub superframeBytes : SuperframeSpecification → List ℕ
 superframeBytes x = split 1 (ordersByte x) ++ split 1 (restByte x)
 
 -- refusal 8: an order above 14 inside its numbered case; a slot above 15
 unfoldable pub superframeTooLarge : SuperframeSpecification → Bool
-superframeTooLarge x = beaconOrderTooLarge (x .«beacon_order») || superframeOrderTooLarge (x .«superframe_order») || ltb 15 (x .«final_cap_slot»)
+superframeTooLarge x =
+    beaconOrderTooLarge (x .«beacon_order»)
+    || superframeOrderTooLarge (x .«superframe_order»)
+    || ltb 15 (x .«final_cap_slot»)
 
 unfoldable pub writeSuperframe : SuperframeSpecification → List ℕ → ℕ → ValueWritten
 writeSuperframe x out at = writeValue (superframeTooLarge x) out at 2

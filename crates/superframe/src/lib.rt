@@ -4,8 +4,10 @@
 ghost use Rattle.octets.specs.Words.{_+_, _-_, _≤_, false, _≡_, length};
 ghost use Rattle.octets.specs.Buffer.{laid, after};
 ghost use Rattle.octets.specs.Value.{valueOutcome};
-ghost use Rattle.superframe.specs.Orders.{beaconOrderOf, beaconOrderBits, beaconOrderTooLarge, superframeOrderOf, superframeOrderBits, superframeOrderTooLarge};
-ghost use Rattle.superframe.specs.Superframe.{emptySuperframe, superframeIn, readSuperframe, ordersByte, restByte, superframeBytes, superframeTooLarge, writeSuperframe};
+ghost use Rattle.superframe.specs.Orders.{beaconOrderOf, beaconOrderBits, beaconOrderTooLarge, superframeOrderOf};
+ghost use Rattle.superframe.specs.Orders.{superframeOrderBits, superframeOrderTooLarge};
+ghost use Rattle.superframe.specs.Superframe.{emptySuperframe, superframeIn, readSuperframe, ordersByte};
+ghost use Rattle.superframe.specs.Superframe.{restByte, superframeBytes, superframeTooLarge, writeSuperframe};
 use octets::Outcome;
 use octets::ValueWritten;
 use octets::bit_of;
@@ -31,6 +33,7 @@ impl BeaconOrder {
         }
     }
 
+    // The number that stands for it, 15 for OnDemand.
     pub fn to_u8(self) -> u8
         ensures { λ r. ⌜ r ≡ beaconOrderBits self ⌝ }
     {
@@ -69,6 +72,7 @@ impl SuperframeOrder {
         }
     }
 
+    // The number that stands for it, 15 for Inactive.
     pub fn to_u8(self) -> u8
         ensures { λ r. ⌜ r ≡ superframeOrderBits self ⌝ }
     {
@@ -89,6 +93,7 @@ impl SuperframeOrder {
     }
 }
 
+// The two bytes' fields.
 pub struct SuperframeSpecification {
     pub beacon_order: BeaconOrder,
     pub superframe_order: SuperframeOrder,
@@ -139,23 +144,18 @@ impl SuperframeSpecification {
         }
     }
 
+    // Reads the two bytes at a place: refusal 1 where they are not there.
     pub fn read(s: &[u8], at: usize) -> SuperframeRead
         ensures { λ r. ⌜ r ≡ readSuperframe (now (s .entry)) at ⌝ }
     {
         if left(s, at) < 2 {
             return SuperframeRead {
-                outcome: Outcome {
-                    number: 1,
-                    length: 0,
-                },
+                outcome: Outcome::refused(1),
                 superframe_spec: SuperframeSpecification::new(),
             };
         }
         SuperframeRead {
-            outcome: Outcome {
-                number: 0,
-                length: 2,
-            },
+            outcome: Outcome::accepted(2),
             superframe_spec: SuperframeSpecification::at(s, at),
         }
     }
@@ -209,6 +209,7 @@ impl SuperframeSpecification {
         put(rest as u64, 1, out, next)
     }
 
+    // Writes the two bytes at a place; refused, out keeps every byte.
     pub fn write(self, out: &mut [u8], at: usize) -> ValueWritten
         ensures { λ r. ⌜ r ≡ writeSuperframe self (now (out .entry)) at ⌝ }
         ensures { λ r. ⌜ now (out .exit) ≡ after (valueOutcome r) (now (out .entry)) at (superframeBytes self) ⌝ }

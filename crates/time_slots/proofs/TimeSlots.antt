@@ -16,14 +16,15 @@ use Rattle.octets.proofs.Cases.{cases, holds?, neither}
 use Rattle.octets.proofs.Little.{split-length}
 use Rattle.seven_places.specs.Seven.{some}
 use Rattle.seven_places.proofs.Seven.{rest-next, each-length}
-use Rattle.time_slot.specs.declared.Direction.{Direction}
-use Rattle.time_slot.specs.declared.Direction.the-variants.{Receive, Transmit}
-use Rattle.time_slot.specs.declared.GuaranteedTimeSlotDescriptor.{GuaranteedTimeSlotDescriptor}
-use Rattle.time_slot.specs.Direction.{directionBit}
-use Rattle.time_slot.specs.Descriptor.{descriptorBytes, descriptorTooLarge}
-use Rattle.time_slot.proofs.Descriptor.{descriptor-length}
+use Rattle.time_slots.specs.declared.Direction.{Direction}
+use Rattle.time_slots.specs.declared.Direction.the-variants.{Receive, Transmit}
+use Rattle.time_slots.specs.declared.GuaranteedTimeSlotDescriptor.{GuaranteedTimeSlotDescriptor}
+use Rattle.time_slots.specs.Direction.{directionBit}
+use Rattle.time_slots.specs.Descriptor.{descriptorBytes, descriptorTooLarge}
+use Rattle.time_slots.proofs.Descriptor.{descriptor-length}
 use Rattle.time_slots.specs.declared.GuaranteedTimeSlotInformation.{GuaranteedTimeSlotInformation}
-use Rattle.time_slots.specs.TimeSlots.{slotsLength, slotsDemand, slotCountIn, timeSlotsIn, timeSlotsLengthIn, readTimeSlots, directionsOf, listBytes, timeSlotsTooLarge}
+use Rattle.time_slots.specs.TimeSlots.{slotsLength, slotsDemand, slotCountIn, timeSlotsIn, timeSlotsLengthIn, readTimeSlots}
+use Rattle.time_slots.specs.TimeSlots.{directionsOf, listBytes, timeSlotsTooLarge}
 
 -- how many bytes slots take and are asked for
 pub length-some : (n : ℕ) → (n ≡ 0 → ⊥) → slotsLength n ≡ 1 + 3 * n
@@ -40,8 +41,10 @@ demand-enough zero = omega arith
 demand-enough (suc n) = omega arith
 
 -- one slot more before the others, the first in the lowest bit
-pub directions-more : (l : List GuaranteedTimeSlotDescriptor) (n i : ℕ) (d : GuaranteedTimeSlotDescriptor) {first rest : ℕ} → n ≤ length l → i ≤ n → 0 < i →
-    first ≡ directionBit (getD l (i - 1) d .direction) → rest ≡ directionsOf (drop i (take n l)) → first + 2 * rest ≡ directionsOf (drop (i - 1) (take n l))
+pub directions-more : (l : List GuaranteedTimeSlotDescriptor) (n i : ℕ) (d : GuaranteedTimeSlotDescriptor) {first rest : ℕ} → n ≤ length l →
+    i ≤ n → 0 < i →
+    first ≡ directionBit (getD l (i - 1) d .direction) → rest ≡ directionsOf (drop i (take n l)) →
+    first + 2 * rest ≡ directionsOf (drop (i - 1) (take n l))
 unfolding directionsOf
 directions-more l n i d k h p e f =
     let back : i - 1 + 1 ≡ i = omega arith in

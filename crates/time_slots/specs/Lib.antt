@@ -1,1 +1,3 @@
+pub mod Direction
+pub mod Descriptor
 pub mod TimeSlots

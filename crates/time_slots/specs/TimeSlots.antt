@@ -1,14 +1,15 @@
 -- GTS information, document 01, "Beacon layout" (IEEE 802.15.4-2011, 5.2.2.1.3 to 5.2.2.1.5). Header: count n bits 0-2,
 -- permit 7. For n > 0 a direction byte, then n descriptors. Bit k of the direction byte belongs to descriptor k.
 use Rattle.octets.specs.Words.{ℕ, zero, suc, _+_, _*_, _%_, Bool, false, _||_, List, [], _∷_, _++_, flatMap, ltb, take}
+use Rattle.octets.specs.Words.{replicate}
 use Rattle.octets.specs.{declared.ValueWritten.ValueWritten, Bits.bits, Bits.bit, Bits.bitOf, Little.number}
 use Rattle.octets.specs.{Little.split, Order.first, Outcome.accepted, Outcome.refused, Part.ends, Value.writeValue}
 use Rattle.seven_places.specs.{Seven.seven, Seven.some}
-use Rattle.time_slot.specs.{declared.GuaranteedTimeSlotDescriptor.GuaranteedTimeSlotDescriptor, Direction.directionBit}
-use Rattle.time_slot.specs.{Direction.directionOf, Descriptor.emptyDescriptor, Descriptor.descriptorIn}
-use Rattle.time_slot.specs.{Descriptor.descriptorBytes, Descriptor.descriptorTooLarge}
+use Rattle.time_slots.specs.{declared.GuaranteedTimeSlotDescriptor.GuaranteedTimeSlotDescriptor}
 use Rattle.time_slots.specs.{declared.GuaranteedTimeSlotInformation.GuaranteedTimeSlotInformation}
-use Rattle.time_slots.specs.{declared.TimeSlotsRead.TimeSlotsRead}
+use Rattle.time_slots.specs.{declared.TimeSlotsRead.TimeSlotsRead, Direction.directionBit, Direction.directionOf}
+use Rattle.time_slots.specs.{Descriptor.emptyDescriptor, Descriptor.descriptorIn, Descriptor.descriptorBytes}
+use Rattle.time_slots.specs.{Descriptor.descriptorTooLarge}
 
 -- how many bytes n slots take behind the header
 abbrev pub slotsLength : ℕ → ℕ
@@ -33,7 +34,7 @@ abbrev pub timeSlotsOf : Bool → ℕ → List GuaranteedTimeSlotDescriptor → 
 timeSlotsOf permit n slots = record { permit = permit; «slot_count» = n; slots = slots }
 
 abbrev pub emptyTimeSlots : GuaranteedTimeSlotInformation
-emptyTimeSlots = timeSlotsOf false 0 (emptyDescriptor ∷ emptyDescriptor ∷ emptyDescriptor ∷ emptyDescriptor ∷ emptyDescriptor ∷ emptyDescriptor ∷ emptyDescriptor ∷ [])
+emptyTimeSlots = timeSlotsOf false 0 (replicate 7 emptyDescriptor)
 
 -- the count in the header at a place, and all that stands there
 abbrev pub slotCountIn : List ℕ → ℕ → ℕ

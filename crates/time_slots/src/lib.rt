@@ -1,23 +1,160 @@
 // The GTS information of a beacon: a header with permit and count, and for a count above 0 a byte of directions and the
-// descriptors of the guaranteed time slots. The functions that ask something (`requires`) are building blocks of this
-// project's readers and writers, which measure first.
+// descriptors of the guaranteed time slots (GTS), three bytes each. The functions that ask something (`requires`) are
+// building blocks of this project's readers and writers, which measure first.
 ghost use Rattle.octets.specs.Words.{_+_, _-_, _*_, _≤_, _<_, false, flatMap, _≡_, length, take};
 ghost use Rattle.octets.specs.Buffer.{laid, after};
 ghost use Rattle.octets.specs.Value.{valueOutcome};
 ghost use Rattle.seven_places.specs.Seven.{some};
-ghost use Rattle.time_slot.specs.Descriptor.{descriptorBytes, descriptorTooLarge};
-ghost use Rattle.time_slots.specs.TimeSlots.{slotsLength, slotsDemand, slotAt, slotsIn, emptyTimeSlots, timeSlotsRefused, readTimeSlots, directionsOf, listBytes, timeSlotsHeader, timeSlotsBytes, timeSlotsSize, timeSlotsTooLarge, writeTimeSlots};
+ghost use Rattle.time_slots.specs.Direction.{directionBit, directionOf};
+ghost use Rattle.time_slots.specs.Descriptor.{emptyDescriptor, descriptorIn, readDescriptor};
+ghost use Rattle.time_slots.specs.Descriptor.{descriptorBytes, descriptorTooLarge, writeDescriptor};
+ghost use Rattle.time_slots.specs.TimeSlots.{slotsLength, slotsDemand, slotAt, slotsIn, emptyTimeSlots};
+ghost use Rattle.time_slots.specs.TimeSlots.{timeSlotsRefused, readTimeSlots, directionsOf, listBytes};
+ghost use Rattle.time_slots.specs.TimeSlots.{timeSlotsHeader, timeSlotsBytes, timeSlotsSize};
+ghost use Rattle.time_slots.specs.TimeSlots.{timeSlotsTooLarge, writeTimeSlots};
+use identifiers::ShortAddress;
 use octets::Outcome;
 use octets::ValueWritten;
 use octets::bit_of;
 use octets::left;
 use octets::put;
 use octets::u8_at;
-use time_slot::Direction;
-use time_slot::GuaranteedTimeSlotDescriptor;
+use octets::u16_at;
+
+// Which way a slot is used.
+pub enum Direction {
+    Receive,
+    Transmit,
+}
+
+impl Direction {
+    // The bit that stands for a direction: only here is it said which of the two a set bit means.
+    pub fn to_bit(self) -> u8
+        ensures { λ r. ⌜ r ≡ directionBit self ⌝ }
+        ensures { λ r. ⌜ r ≤ 1 ⌝ }
+    {
+        match self {
+            Direction::Receive => 0,
+            Direction::Transmit => 1,
+        }
+    }
+
+    // The direction that a bit stands for.
+    pub fn from_bit(bit: u8) -> Self
+        ensures { λ r. ⌜ r ≡ directionOf bit ⌝ }
+    {
+        let transmit = Direction::Transmit;
+        if bit == transmit.to_bit() {
+            Direction::Transmit
+        } else {
+            Direction::Receive
+        }
+    }
+}
+
+// One slot of the list.
+pub struct GuaranteedTimeSlotDescriptor {
+    // The device that the slot is for.
+    pub short_address: ShortAddress,
+    // The first slot and how many there are, 0 to 15 each.
+    pub starting_slot: u8,
+    pub length: u8,
+    pub direction: Direction,
+}
+
+// What reading a descriptor answers; refused, with the empty one.
+pub struct DescriptorRead {
+    pub outcome: Outcome,
+    pub slot: GuaranteedTimeSlotDescriptor,
+}
+
+impl GuaranteedTimeSlotDescriptor {
+    // A descriptor as in an unused place.
+    pub fn new() -> Self
+        ensures { λ r. ⌜ r ≡ emptyDescriptor ⌝ }
+    {
+        GuaranteedTimeSlotDescriptor {
+            short_address: ShortAddress::BROADCAST,
+            starting_slot: 0,
+            length: 0,
+            direction: Direction::Receive,
+        }
+    }
+
+    // The descriptor in three bytes, with its direction, which stands elsewhere. Asks that they are there.
+    pub fn at(s: &[u8], at: usize, direction: Direction) -> Self
+        requires { ⌜ at + 3 ≤ length (now s) ⌝ }
+        ensures { λ r. ⌜ r ≡ descriptorIn (now (s .entry)) at direction ⌝ }
+    {
+        let short_address = ShortAddress(u16_at(s, at));
+        let slot = u8_at(s, at + 2);
+        GuaranteedTimeSlotDescriptor {
+            short_address,
+            starting_slot: slot % 16,
+            length: slot / 16 % 16,
+            direction,
+        }
+    }
+
+    // Reads the three bytes at a place: refusal 1 where they are not there. Read alone it is Receive, as in an unused
+    // place.
+    pub fn read(s: &[u8], at: usize) -> DescriptorRead
+        ensures { λ r. ⌜ r ≡ readDescriptor (now (s .entry)) at ⌝ }
+    {
+        if left(s, at) < 3 {
+            return DescriptorRead {
+                outcome: Outcome::refused(1),
+                slot: GuaranteedTimeSlotDescriptor::new(),
+            };
+        }
+        DescriptorRead {
+            outcome: Outcome::accepted(3),
+            slot: GuaranteedTimeSlotDescriptor::at(s, at, Direction::Receive),
+        }
+    }
+
+    // A start or a length above 15: refusal 8.
+    pub fn too_large(self) -> bool
+        ensures { λ r. ⌜ r ≡ descriptorTooLarge self ⌝ }
+    {
+        if 15 < self.starting_slot {
+            true
+        } else {
+            15 < self.length
+        }
+    }
+
+    // Stores the three bytes and returns the place behind them. Asks that no number is too large, and for that room.
+    pub fn put(self, out: &mut [u8], at: usize) -> usize
+        requires { ⌜ descriptorTooLarge self ≡ false ⌝ }
+        requires { ⌜ 3 ≤ length (now out) - at ⌝ }
+        ensures { λ r. ⌜ r ≡ at + 3 ⌝ }
+        ensures { λ r. ⌜ now (out .exit) ≡ laid (now (out .entry)) at (descriptorBytes self) ⌝ }
+    {
+        let address = self.short_address.0;
+        let slot = self.starting_slot + 16 * self.length;
+        let next = put(address as u64, 2, out, at);
+        put(slot as u64, 1, out, next)
+    }
+
+    // Writes the three bytes at a place; refused, out keeps every byte. The direction has no bit of its own here.
+    pub fn write(self, out: &mut [u8], at: usize) -> ValueWritten
+        ensures { λ r. ⌜ r ≡ writeDescriptor self (now (out .entry)) at ⌝ }
+        ensures { λ r. ⌜ now (out .exit) ≡ after (valueOutcome r) (now (out .entry)) at (descriptorBytes self) ⌝ }
+    {
+        if self.too_large() {
+            return ValueWritten::TooLarge;
+        }
+        if left(out, at) < 3 {
+            return ValueWritten::Full;
+        }
+        self.put(out, at);
+        ValueWritten::Written(3)
+    }
+}
 
 // How many bytes n slots take behind the header. Asks for at most seven.
-fn slots_length(n: usize) -> usize
+pub fn slots_length(n: usize) -> usize
     requires { ⌜ n ≤ 7 ⌝ }
     ensures { λ r. ⌜ r ≡ slotsLength n ⌝ }
     ensures { λ r. ⌜ r ≤ 22 ⌝ }
@@ -109,7 +246,8 @@ fn put_slots(slots: [GuaranteedTimeSlotDescriptor; 7], n: usize, out: &mut [u8],
     at + 3 * n
 }
 
-// Stores what follows the header: for any slot, the directions and the slots. Asks as above.
+// Stores what follows the header: for any slot, the directions and the slots. Asks that no number is too large, and for
+// that room.
 fn put_list(slots: [GuaranteedTimeSlotDescriptor; 7], n: usize, out: &mut [u8], at: usize) -> usize
     requires { ⌜ n ≤ 7 ⌝ }
     requires { ⌜ some descriptorTooLarge (take n slots) ≡ false ⌝ }
@@ -126,6 +264,7 @@ fn put_list(slots: [GuaranteedTimeSlotDescriptor; 7], n: usize, out: &mut [u8], 
     put_slots(slots, n, out, next)
 }
 
+// The header and the list.
 pub struct GuaranteedTimeSlotInformation {
     // The coordinator takes requests for slots.
     pub permit: bool,
@@ -146,10 +285,7 @@ impl TimeSlotsRead {
     {
         let guaranteed_time_slot_info = GuaranteedTimeSlotInformation::new();
         TimeSlotsRead {
-            outcome: Outcome {
-                number: 1,
-                length: 0,
-            },
+            outcome: Outcome::refused(1),
             guaranteed_time_slot_info,
         }
     }
@@ -168,8 +304,8 @@ impl GuaranteedTimeSlotInformation {
         }
     }
 
-    // Read alone, it wants to see one byte more behind its slots than it takes, as the crate does: in a beacon another
-    // part follows.
+    // Reads it at a place: refusal 1 where its bytes are not all there. Read alone, it wants to see one byte more
+    // behind its slots than it takes, as the crate does: in a beacon another part follows.
     pub fn read(s: &[u8], at: usize) -> TimeSlotsRead
         ensures { λ r. ⌜ r ≡ readTimeSlots (now (s .entry)) at ⌝ }
     {
@@ -183,10 +319,7 @@ impl GuaranteedTimeSlotInformation {
         }
         let slots = slots_at(s, at + 1, n);
         TimeSlotsRead {
-            outcome: Outcome {
-                number: 0,
-                length: 1 + slots_length(n),
-            },
+            outcome: Outcome::accepted(1 + slots_length(n)),
             guaranteed_time_slot_info: GuaranteedTimeSlotInformation {
                 permit: header / 128 % 2 == 1,
                 slot_count: n,
@@ -237,6 +370,7 @@ impl GuaranteedTimeSlotInformation {
         put_list(slots, self.slot_count, out, next)
     }
 
+    // Writes it at a place; refused, out keeps every byte.
     pub fn write(self, out: &mut [u8], at: usize) -> ValueWritten
         ensures { λ r. ⌜ r ≡ writeTimeSlots self (now (out .entry)) at ⌝ }
         ensures { λ r. ⌜ now (out .exit) ≡ after (valueOutcome r) (now (out .entry)) at (timeSlotsBytes self) ⌝ }

@@ -4,7 +4,7 @@ use mathlib.Core.Path.{_∙_}
 use native.Mathlib.Omega.{arith}
 use borrow.Author.Needs.{needs}
 use denote.Ref.{now}
-use Rattle.beacon_measure.proofs.Laws.{ended, all-there, beacon-least, beacon-parts}
+use Rattle.beacon_measure.proofs.BeaconLength.{ended, all-there, beacon-least, beacon-parts}
 use Rattle.beacon_measure.proofs.measure_beacon.Statement.{statement}
 use Rattle.beacon_measure.proofs.measure_beacon.Tie as tie
 
@@ -22,7 +22,13 @@ slots c =
     let a = room .before .before .before .args in
     c .refused2 .ensures
     ∙ ended (now (a .s)) (a .at)
-    (omega (arith, room .before .left .ensures, c .before .if2 .taken, slots .time-slots-length .ensures .0, beacon-least (now (a .s)) (a .at) .1))
+    (omega (
+      arith,
+      room .before .left .ensures,
+      c .before .if2 .taken,
+      slots .time-slots-length .ensures .0,
+      beacon-least (now (a .s)) (a .at) .1,
+    ))
 
 pending : tie.Need-returns-3
 pending c =
@@ -46,5 +52,6 @@ pub measure-beacon-spec : {M : Type 1} → statement M
 measure-beacon-spec =
     tie.close
     (tie.spec (λ c κs. search needs) (λ c κs. search needs) below-four (λ c. search needs) (λ c κs. search needs) (λ c. search needs)
-    (λ c. search needs) (λ c κs. search needs) slots (λ c. search needs) (λ c κs. search needs) (λ c. search needs) (λ c κs. search needs) pending
+    (λ c. search needs) (λ c κs. search needs) slots (λ c. search needs) (λ c κs. search needs) (λ c. search needs)
+    (λ c κs. search needs) pending
     (λ c κs. search needs) all)

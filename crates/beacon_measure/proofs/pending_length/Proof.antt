@@ -1,15 +1,15 @@
 -- `beacon_measure::pending_length` meets its contract: both counts stand in the header.
 -- Assumes nothing.
-use mathlib.Core.Path.{_∙_}
 use native.Mathlib.Omega.{arith}
 use borrow.Author.Needs.{needs}
 use Rattle.beacon_measure.proofs.pending_length.Statement.{statement}
 use Rattle.beacon_measure.proofs.pending_length.Tie as tie
 
 returns : tie.Need-returns
-returns c = (rw (c .wide .ensures .0 ∙ c .before .u8-at .ensures), omega arith)
+returns c = (rw (c .u8-at .ensures), omega arith)
 
 pub pending-length-spec : {M : Type 1} → statement M
 pending-length-spec =
     tie.close
-    (tie.spec (λ c κs. search needs) (λ c κs. search needs) (λ c. search needs) (λ c. search needs) (λ c. search needs) (λ c. search needs) returns)
+    (tie.spec (λ c κs. search needs) (λ c. search needs) (λ c. search needs) (λ c. search needs) (λ c. search needs)
+    (λ c. search needs) returns)

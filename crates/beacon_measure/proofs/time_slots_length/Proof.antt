@@ -11,8 +11,8 @@ use Rattle.beacon_measure.proofs.time_slots_length.Tie as tie
 returns : tie.Need-returns
 returns c =
     let size = c .slots-length .ensures in
-    (ap (λ (n : ℕ). 1 + n) (size .0 ∙ ap (λ (b : ℕ). slotsLength (b % 8)) (c .before .wide .ensures .0 ∙ c .before .before .u8-at .ensures)), omega (arith, size .1))
+    (ap (λ (n : ℕ). 1 + n) (size .0 ∙ ap (λ (b : ℕ). slotsLength (b % 8)) (c .before .u8-at .ensures)), omega (arith, size .1))
 
 pub time-slots-length-spec : {M : Type 1} → statement M
 time-slots-length-spec =
-    tie.close (tie.spec (λ c κs. search needs) (λ c κs. search needs) (λ c κs. search needs) (λ c. search needs) returns)
+    tie.close (tie.spec (λ c κs. search needs) (λ c. search needs) (λ c κs. search needs) (λ c. search needs) returns)

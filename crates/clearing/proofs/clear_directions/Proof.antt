@@ -3,7 +3,7 @@
 use mathlib.Core.Path.{_∙_}
 use borrow.Author.Needs.{needs}
 use denote.Ref.{now}
-use Rattle.clearing.proofs.Laws.{directions-some, directions-none}
+use Rattle.clearing.proofs.Shifts.{directions-some, directions-none}
 use Rattle.clearing.proofs.clear_directions.Statement.{statement}
 use Rattle.clearing.proofs.clear_directions.Tie as tie
 

@@ -14,8 +14,10 @@ use Rattle.clearing.proofs.clear_header.Tie as tie
 control-there : tie.Need-clear-at-requires-3
 control-there c κs =
     let test = c .before .before in
-    let asked = test .before .before .before .before .before .before .before .before .before .before .pre in
-    (omega (arith, asked .1 (eq-eqb _ _ (test .if1 .taken)), c .addresses-end .ensures .0), (omega arith, omega arith))
+    let second = test .before .before .before in
+    let first = second .before .before .before .before in
+    let asked = first .before .before .before .pre in
+    (omega arith, (omega arith, omega (arith, asked .1 (eq-eqb _ _ (test .if1 .taken)), c .addresses-end .ensures .0)))
 
 secured : tie.Need-returns
 secured c =
@@ -39,4 +41,5 @@ plain c =
 pub clear-header-spec : {M : Type 1} → statement M
 clear-header-spec =
     tie.close
-    (tie.spec (λ c κs. search needs) (λ c κs. search needs) (λ c κs. search needs) control-there (λ c. search needs) secured (λ c. search needs) plain)
+    (tie.spec (λ c κs. search needs) (λ c κs. search needs) (λ c κs. search needs) control-there (λ c. search needs) secured
+    (λ c. search needs) plain)

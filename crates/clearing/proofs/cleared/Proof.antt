@@ -2,7 +2,8 @@
 -- Assumes nothing.
 use native.Mathlib.Omega.{arith}
 use borrow.Author.Needs.{needs}
-use Rattle.clearing.proofs.Laws.{shifted-one, shifted-some, shifted-part}
+use Rattle.octets.proofs.Bits.{shifted-one}
+use Rattle.clearing.proofs.Shifts.{shifted-some, shifted-part}
 use Rattle.clearing.proofs.cleared.Statement.{statement}
 use Rattle.clearing.proofs.cleared.Tie as tie
 

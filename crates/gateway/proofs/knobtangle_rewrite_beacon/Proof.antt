@@ -4,7 +4,7 @@ use mathlib.Core.Path.{sym, ap, _∙_}
 use borrow.Author.Needs.{needs}
 use denote.Ref.{now}
 use Rattle.gateway.specs.Code.{codeOf}
-use Rattle.gateway.proofs.Laws.{beacon-refused, beacon-full, beacon-fits}
+use Rattle.gateway.proofs.BeaconRewriting.{beacon-refused, beacon-full, beacon-fits}
 use Rattle.gateway.proofs.knobtangle_rewrite_beacon.Statement.{statement}
 use Rattle.gateway.proofs.knobtangle_rewrite_beacon.Tie as tie
 
@@ -45,4 +45,5 @@ written c =
 pub knobtangle-rewrite-beacon-spec : {M : Type 1} → statement M
 knobtangle-rewrite-beacon-spec =
     tie.close
-    (tie.spec (λ c κs. search needs) (λ c κs. search needs) refused (λ c κs. search needs) (λ c κs. search needs) full accepts (λ c. search needs) written)
+    (tie.spec (λ c κs. search needs) (λ c κs. search needs) refused (λ c κs. search needs) (λ c κs. search needs) full accepts
+    (λ c. search needs) written)

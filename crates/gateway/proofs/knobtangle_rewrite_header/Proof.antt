@@ -4,8 +4,9 @@ use mathlib.Core.Path.{sym, ap, _∙_}
 use borrow.Author.Needs.{needs}
 use denote.Ref.{now}
 use Rattle.octets.specs.declared.Outcome.{Outcome}
+use Rattle.octets.proofs.Accepted.{accepted-of}
 use Rattle.gateway.specs.Code.{codeOf}
-use Rattle.gateway.proofs.Laws.{header-kept, accepted-of}
+use Rattle.gateway.proofs.HeaderRewriting.{header-kept}
 use Rattle.gateway.proofs.knobtangle_rewrite_header.Statement.{statement}
 use Rattle.gateway.proofs.knobtangle_rewrite_header.Tie as tie
 

@@ -5,7 +5,7 @@ use borrow.Author.Tests.{eq-eqb, ne-eqb}
 use borrow.Author.Needs.{needs}
 use denote.Ref.{now}
 use Rattle.payload.specs.declared.FrameRead.{FrameRead}
-use Rattle.payload.proofs.Laws.{frame-within, tail}
+use Rattle.payload.proofs.Within.{frame-within, tail}
 use Rattle.payload.proofs.payload.Statement.{statement}
 use Rattle.payload.proofs.payload.Tie as tie
 

@@ -24,14 +24,19 @@ unfolding readFrame
 beacon c =
     let found = c .before .before .before .before in
     let call = found .before .before in
-    c .with-beacon .ensures ∙ rw (← call .read .ensures) (rw (found .header .given .1) (simp (sym (c .before .before .opens .ensures) ∙ c .before .if1 .taken)))
+    c .with-beacon .ensures
+    ∙ rw (← call .read .ensures)
+    (rw (found .header .given .1) (simp (sym (c .before .before .opens .ensures) ∙ c .before .if1 .taken)))
 
 plain : tie.Need-returns-3
 unfolding readFrame
 plain c =
     let found = c .before .before .before .before .before in
     let call = found .before .before in
-    c .without-beacon2 .ensures ∙ rw (c .before .outcome2 .ensures, ← call .read .ensures) (rw (found .header .given .1) (simp (sym (c .before .before .before .opens .ensures) ∙ c .before .before .if1 .left)))
+    let test = c .before .before in
+    c .without-beacon2 .ensures
+    ∙ rw (c .before .outcome2 .ensures, ← call .read .ensures)
+    (rw (found .header .given .1) (simp (sym (test .before .opens .ensures) ∙ test .if1 .left)))
 
 pub read-spec : {M : Type 1} → statement M
 read-spec =

@@ -6,11 +6,11 @@ use native.Mathlib.Omega.{arith}
 use borrow.Author.Needs.{needs}
 use denote.Ref.{now}
 use Rattle.beacon.specs.declared.BeaconRead.{BeaconRead}
-use Rattle.payload.proofs.Laws.{beacon-within}
+use Rattle.payload.proofs.Within.{beacon-within}
 use Rattle.payload.proofs.with_beacon.Statement.{statement}
 use Rattle.payload.proofs.with_beacon.Tie as tie
 
-fits : tie.Need-add-t7
+fits : tie.Need-add-accepted
 fits c =
     let call = c .before .before .before .before in
     let a = call .before .before .args in
@@ -19,13 +19,13 @@ fits c =
 
 behind : tie.Need-returns
 behind c =
-    let call = c .before .before .before .before in
-    rw (← call .read .ensures) (simp (eq-eqb _ 0 (c .before .if1 .taken)))
+    let test = c .before .before in
+    rw (← test .before .before .before .read .ensures) (simp (c .accepted .ensures, eq-eqb _ 0 (test .if1 .taken)))
 
 refused : tie.Need-returns-2
 refused c =
-    let call = c .before .before .before in
-    rw (← call .read .ensures) (simp (ne-eqb _ 0 (c .if1 .left)))
+    let test = c .before in
+    rw (← test .before .before .before .read .ensures) (simp (c .refused .ensures, ne-eqb _ 0 (test .if1 .left)))
 
 pub with-beacon-spec : {M : Type 1} → statement M
-with-beacon-spec = tie.close (tie.spec (λ c κs. search needs) fits behind refused)
+with-beacon-spec = tie.close (tie.spec (λ c κs. search needs) fits (λ c κs. search needs) behind (λ c κs. search needs) refused)

@@ -32,5 +32,6 @@ all c =
 pub extendeds-at-spec : {M : Type 1} → statement M
 extendeds-at-spec =
     tie.close
-    (tie.spec Inv-loop μ-loop none-yet (λ c. omega arith) (λ c. omega arith) (λ c κs. omega arith) (λ c. omega arith) (λ c. omega arith) (λ c. omega arith) (λ c. omega arith)
+    (tie.spec Inv-loop μ-loop none-yet (λ c. omega arith) (λ c. omega arith) (λ c κs. omega arith) (λ c. omega arith) (λ c. omega arith)
+    (λ c. omega arith) (λ c. omega arith)
     one-more all)

@@ -21,7 +21,8 @@ returns c =
     let a = first .before .before .before in (
       omega (arith, second .put-extendeds .ensures .0, first .put-shorts .ensures .0),
       laid-two _ _ _ _ _ _
-          (each-length shortBytes 2 (λ x. split-length 2 (x .0)) (a .args .shorts) (a .args .m) (omega (arith, a .good .0 .1 .0 .1, a .pre .0)))
+          (each-length shortBytes 2 (λ x. split-length 2 (x .0)) (a .args .shorts) (a .args .m)
+          (omega (arith, a .good .0 .1 .0 .1, a .pre .0)))
           (first .put-shorts .ensures .0) (first .put-shorts .ensures .1) (second .put-extendeds .ensures .1),
     )
 

@@ -32,5 +32,6 @@ all c =
 pub shorts-at-spec : {M : Type 1} → statement M
 shorts-at-spec =
     tie.close
-    (tie.spec Inv-loop μ-loop none-yet (λ c. omega arith) (λ c. omega arith) (λ c κs. omega arith) (λ c. omega arith) (λ c. omega arith) (λ c. omega arith) (λ c. omega arith)
+    (tie.spec Inv-loop μ-loop none-yet (λ c. omega arith) (λ c. omega arith) (λ c κs. omega arith) (λ c. omega arith) (λ c. omega arith)
+    (λ c. omega arith) (λ c. omega arith)
     one-more all)

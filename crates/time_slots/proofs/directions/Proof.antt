@@ -50,4 +50,5 @@ all c =
 pub directions-spec : {M : Type 1} → statement M
 directions-spec =
     tie.close
-    (tie.spec Inv-loop μ-loop none-yet (λ c. omega arith) (λ c. omega arith) (λ c. omega arith) (λ c κs. search needs) doubled next-fits (λ c. omega arith) one-more all)
+    (tie.spec Inv-loop μ-loop none-yet (λ c. omega arith) (λ c. omega arith) (λ c. omega arith) (λ c κs. search needs) doubled next-fits
+    (λ c. omega arith) one-more all)

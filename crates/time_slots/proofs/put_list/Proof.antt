@@ -27,8 +27,19 @@ slots-room : tie.Need-put-slots-requires
 slots-room c κs =
     let first = c .before .before .before in
     let test = first .before .before .before in
-    let a = test .before .before in
-    (a .pre .0, (a .pre .1 .0, omega (arith, first .put .kept .0, first .put .ensures .0, length-some (a .args .n) (test .if1 .left), a .pre .1 .1)))
+    let a = test .before .before in (
+      a .pre .0,
+      (
+        a .pre .1 .0,
+        omega (
+          arith,
+          first .put .kept .1 .1 .0,
+          first .put .ensures .0,
+          length-some (a .args .n) (test .if1 .left),
+          a .pre .1 .1,
+        ),
+      ),
+    )
 
 some : tie.Need-returns-2
 some c =
@@ -41,7 +52,8 @@ some c =
       omega (arith, second .put-slots .ensures .0, first .put .ensures .0, length-some (a .args .n) (test .if1 .left)),
       (
         laid-two _ _ 1 _ _ _ (split-length 1 _) (first .put .ensures .0) (first .put .ensures .1) (second .put-slots .ensures .1)
-            ∙ ap (laid (a .args .out .now) (a .args .at)) (rw (byte .directions .ensures) (sym (list-some (a .args .slots) (a .args .n) few (test .if1 .left)))),
+            ∙ ap (laid (a .args .out .now) (a .args .at))
+            (rw (byte .directions .ensures) (sym (list-some (a .args .slots) (a .args .n) few (test .if1 .left)))),
         list-length (a .args .slots) (a .args .n) few,
       ),
     )

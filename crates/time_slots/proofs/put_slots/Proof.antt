@@ -7,14 +7,15 @@ use mathlib.Core.Path.{_≡_, refl, sym, _∙_}
 use lib.ListN.{length, take, drop}
 use Rattle.octets.specs.Buffer.{laid}
 use Rattle.seven_places.proofs.Seven.{some-fails, put-next, put-done}
-use Rattle.time_slot.specs.Descriptor.{descriptorBytes, descriptorTooLarge}
-use Rattle.time_slot.proofs.Descriptor.{descriptor-length}
+use Rattle.time_slots.specs.Descriptor.{descriptorBytes, descriptorTooLarge}
+use Rattle.time_slots.proofs.Descriptor.{descriptor-length}
 use Rattle.time_slots.proofs.put_slots.Statement.{statement}
 use Rattle.time_slots.proofs.put_slots.Tie as tie
 
 abbrev Inv-loop : tie.InvT-loop
 Inv-loop n out₀ at slots k₀ out k =
-    (k ≤ n) × ((length out ≡ length out₀) × (laid out (at + 3 * k) (flatMap descriptorBytes (drop k (take n slots))) ≡ laid out₀ at (flatMap descriptorBytes (take n slots))))
+    (k ≤ n) × ((length out ≡ length out₀)
+    × (laid out (at + 3 * k) (flatMap descriptorBytes (drop k (take n slots))) ≡ laid out₀ at (flatMap descriptorBytes (take n slots))))
 
 abbrev μ-loop : tie.MeasureT-loop
 μ-loop n out₀ at slots k₀ out k = n - k
@@ -26,7 +27,8 @@ fits : tie.Need-put-requires Inv-loop μ-loop
 fits c κs =
     let turn = c .before .before .before in
     let a = turn .before .before in (
-      some-fails descriptorTooLarge (a .args .t1) (a .args .n) (turn .loop .k) _ (omega (arith, a .good .0 .1 .0 .1)) (omega arith) (a .pre .1 .0),
+      some-fails descriptorTooLarge (a .args .t1) (a .args .n) (turn .loop .k) _ (omega (arith, a .good .0 .1 .0 .1)) (omega arith)
+          (a .pre .1 .0),
       omega arith,
     )
 
@@ -38,7 +40,8 @@ one-less c =
       omega arith,
       (
         stored .put .kept .1 .0 ∙ turn .loop .inv .1 .0,
-        put-next descriptorBytes 3 (a .args .t1) (a .args .n) (turn .loop .k) _ (turn .loop .out) (a .args .at) (omega (arith, a .good .0 .1 .0 .1)) (omega arith)
+        put-next descriptorBytes 3 (a .args .t1) (a .args .n) (turn .loop .k) _ (turn .loop .out) (a .args .at)
+            (omega (arith, a .good .0 .1 .0 .1)) (omega arith)
             (descriptor-length _) (stored .put .ensures .1)
             ∙ turn .loop .inv .1 .1,
       ),
@@ -56,5 +59,6 @@ all c =
 pub put-slots-spec : {M : Type 1} → statement M
 put-slots-spec =
     tie.close
-    (tie.spec Inv-loop μ-loop none-yet (λ c. omega arith) (λ c. omega arith) (λ c. omega arith) (λ c. omega arith) fits (λ c. omega arith) (λ c. omega arith) one-less
+    (tie.spec Inv-loop μ-loop none-yet (λ c. omega arith) (λ c. omega arith) (λ c. omega arith) (λ c. omega arith) fits (λ c. omega arith)
+    (λ c. omega arith) one-less
     (λ c. omega arith) (λ c. omega arith) same-length all)

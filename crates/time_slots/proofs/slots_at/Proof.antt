@@ -38,4 +38,5 @@ all c =
 pub slots-at-spec : {M : Type 1} → statement M
 slots-at-spec =
     tie.close
-    (tie.spec Inv-loop μ-loop (λ c κs. search needs) none-yet there (λ c. omega arith) (λ c. omega arith) (λ c. omega arith) (λ c. omega arith) one-more all)
+    (tie.spec Inv-loop μ-loop (λ c κs. search needs) none-yet there (λ c. omega arith) (λ c. omega arith) (λ c. omega arith)
+    (λ c. omega arith) one-more all)

@@ -9,4 +9,5 @@ use Rattle.time_slots.proofs.slots_demand.Tie as tie
 
 pub slots-demand-spec : {M : Type 1} → statement M
 slots-demand-spec =
-    tie.close (tie.spec (λ c. search needs) (λ c. search needs) (λ c. search needs) (λ c. (sym (demand-some _ (c .if1 .left)), omega arith)))
+    tie.close (tie.spec (λ c. search needs) (λ c. search needs) (λ c. search needs)
+    (λ c. (sym (demand-some _ (c .if1 .left)), omega arith)))

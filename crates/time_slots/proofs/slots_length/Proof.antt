@@ -9,4 +9,5 @@ use Rattle.time_slots.proofs.slots_length.Tie as tie
 
 pub slots-length-spec : {M : Type 1} → statement M
 slots-length-spec =
-    tie.close (tie.spec (λ c. search needs) (λ c. search needs) (λ c. search needs) (λ c. (sym (length-some _ (c .if1 .left)), omega arith)))
+    tie.close (tie.spec (λ c. search needs) (λ c. search needs) (λ c. search needs)
+    (λ c. (sym (length-some _ (c .if1 .left)), omega arith)))

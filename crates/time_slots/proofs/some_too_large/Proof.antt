@@ -7,7 +7,7 @@ use borrow.Author.Needs.{needs}
 use lib.ListN.{take, drop}
 use Rattle.seven_places.specs.Seven.{some}
 use Rattle.seven_places.proofs.Seven.{some-none, some-found, some-passed}
-use Rattle.time_slot.specs.Descriptor.{descriptorTooLarge}
+use Rattle.time_slots.specs.Descriptor.{descriptorTooLarge}
 use Rattle.time_slots.proofs.some_too_large.Statement.{statement}
 use Rattle.time_slots.proofs.some_too_large.Tie as tie
 
@@ -43,4 +43,5 @@ none c =
 pub some-too-large-spec : {M : Type 1} → statement M
 some-too-large-spec =
     tie.close
-    (tie.spec Inv-loop μ-loop (λ c. (omega arith, refl)) (λ c. omega arith) (λ c. omega arith) (λ c κs. search needs) found (λ c. omega arith) (λ c. omega arith) passed none)
+    (tie.spec Inv-loop μ-loop (λ c. (omega arith, refl)) (λ c. omega arith) (λ c. omega arith) (λ c κs. search needs) found
+    (λ c. omega arith) (λ c. omega arith) passed none)

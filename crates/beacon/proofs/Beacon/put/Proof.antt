@@ -37,7 +37,8 @@ returns c =
     let first = second .before .before .before .before in (
       omega (arith, third .put3 .ensures .0, second .put2 .ensures .0, first .put .ensures .0),
       laid-two _ _ 2 _ _ _ (superframe-length _) (first .put .ensures .0) (first .put .ensures .1)
-          (laid-two _ _ _ _ _ _ (second .put2 .ensures .1 .1) (second .put2 .ensures .0) (second .put2 .ensures .1 .0) (third .put3 .ensures .1)),
+          (laid-two _ _ _ _ _ _ (second .put2 .ensures .1 .1) (second .put2 .ensures .0) (second .put2 .ensures .1 .0)
+          (third .put3 .ensures .1)),
     )
 
 pub put-spec : {M : Type 1} → statement M

@@ -32,18 +32,23 @@ superframe c =
 
 slots : (c : tie.Else2) → let a = c .before .before .before .before .before .before .before .args in
     let place = a .at + 2 in
-    let part : TimeSlotsRead = record { outcome = accepted (timeSlotsLengthIn (a .s .now) place); «guaranteed_time_slot_info» = timeSlotsIn (a .s .now) place } in
-    (c .before .before .read2 .result ≡ part) × (readTimeSlots (a .s .now) place ≡ part) × (timeSlotsLengthIn (a .s .now) place ≤ length (a .s .now) - place)
+    let part : TimeSlotsRead =
+    record { outcome = accepted (timeSlotsLengthIn (a .s .now) place); «guaranteed_time_slot_info» = timeSlotsIn (a .s .now) place } in
+    (c .before .before .read2 .result ≡ part) × (readTimeSlots (a .s .now) place ≡ part)
+    × (timeSlotsLengthIn (a .s .now) place ≤ length (a .s .now) - place)
 slots c =
     let a = c .before .before .before .before .before .before .before .args in
     let call = c .before .before .read2 in
     let there = time-slots-read _ _ (ap (λ (r : TimeSlotsRead). r .outcome .number) (sym (call .ensures)) ∙ c .if2 .left) in
     (call .ensures ∙ there .0, there .0, omega (arith, there .1, demand-enough (slotCountIn (a .s .now) (a .at + 2))))
 
-pending : (c : tie.Else3) → let a = c .before .before .before .before .before .before .before .before .before .before .before .args in
+pending : (c : tie.Else3) → let two = c .before .before .before .before in
+    let a = two .before .before .before .before .before .before .before .args in
     let place = pendingPlace (a .s .now) (a .at) in
-    let part : PendingRead = record { outcome = accepted (pendingLengthIn (a .s .now) place); «pending_address» = pendingIn (a .s .now) place } in
-    (c .before .before .read3 .result ≡ part) × (readPending (a .s .now) place ≡ part) × (pendingLengthIn (a .s .now) place ≤ length (a .s .now) - place)
+    let part : PendingRead =
+    record { outcome = accepted (pendingLengthIn (a .s .now) place); «pending_address» = pendingIn (a .s .now) place } in
+    (c .before .before .read3 .result ≡ part) × (readPending (a .s .now) place ≡ part)
+    × (pendingLengthIn (a .s .now) place ≤ length (a .s .now) - place)
 pending c =
     let told = rw (slots (c .before .before .before .before) .0) at (c .before .before .read3 .ensures) in
     let there = pending-read _ _ (ap (λ (r : PendingRead). r .outcome .number) (sym told) ∙ c .if3 .left) in
@@ -100,13 +105,24 @@ pending-end c =
 all : tie.Need-returns-4
 unfolding readBeacon beaconIn beaconLengthIn
 all c =
-    let three = c .before .before .before in
+    let joining = c .before in
+    let three = joining .before .before .before in
     let two = three .before .before .before .before in
     let one = two .before .before .before in
-    simp (c .joined .ensures, superframe one .0, superframe one .1, slots two .0, slots two .1, pending three .0, pending three .1)
+    simp (
+      c .accepted .ensures,
+      joining .joined .ensures,
+      superframe one .0,
+      superframe one .1,
+      slots two .0,
+      slots two .1,
+      pending three .0,
+      pending three .1,
+    )
 
 pub read-spec : {M : Type 1} → statement M
 read-spec =
     tie.close
-    (tie.spec (λ c κs. search needs) (λ c κs. search needs) no-superframe second-place (λ c κs. search needs) (λ c κs. search needs) no-slots second-place-again third-place
-    (λ c κs. search needs) (λ c κs. search needs) no-pending slots-end pending-end (λ c κs. search needs) all)
+    (tie.spec (λ c κs. search needs) (λ c κs. search needs) no-superframe second-place (λ c κs. search needs)
+    (λ c κs. search needs) no-slots second-place-again third-place
+    (λ c κs. search needs) (λ c κs. search needs) no-pending slots-end pending-end (λ c κs. search needs) (λ c κs. search needs) all)

@@ -21,7 +21,12 @@ unfolding beaconTooLarge
 pending c =
     let two = c .before in
     let one = two .before .before in
-    simp (sym (one .before .too-large .ensures) ∙ one .if1 .left, sym (two .before .too-large2 .ensures) ∙ two .if2 .left, c .too-large3 .ensures)
+    simp (
+      sym (one .before .too-large .ensures) ∙ one .if1 .left,
+      sym (two .before .too-large2 .ensures)
+          ∙ two .if2 .left,
+      c .too-large3 .ensures,
+    )
 
 pub too-large-spec : {M : Type 1} → statement M
 too-large-spec = tie.close (tie.spec (λ c κs. search needs) superframe (λ c κs. search needs) slots (λ c κs. search needs) pending)

@@ -14,7 +14,7 @@ lists-room c κs =
     let first = c .before .before .before in
     let a = first .before .before .before .before .before .before in
     let fits = fitting (a .args .self) (a .pre .0) in
-    (fits .0, (fits .1, omega (arith, first .put .kept .0, first .put .ensures .0, a .pre .1)))
+    (fits .0, (fits .1, omega (arith, first .put .kept .1 .1 .0, first .put .ensures .0, a .pre .1)))
 
 returns : tie.Need-returns
 unfolding pendingBytes

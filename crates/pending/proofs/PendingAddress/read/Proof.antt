@@ -25,20 +25,24 @@ no-addresses c =
 all : tie.Need-returns-3
 unfolding readPending pendingIn
 all c =
-    let two = c .before .before in
+    let lists = c .before in
+    let two = lists .before .before in
     let header = two .before .before in
     let one = header .before in
     simp (
       enough (one .before .left .ensures) (one .if1 .left),
       enough (two .before .left2 .ensures) (rw (header .u8-at .ensures) at (two .if2 .left)),
-      c .extendeds-at .ensures,
-      c .before .shorts-at .ensures,
+      c .accepted .ensures,
+      lists .extendeds-at .ensures,
+      lists .before .shorts-at .ensures,
       header .u8-at .ensures,
     )
 
 pub read-spec : {M : Type 1} → statement M
 read-spec =
     tie.close
-    (tie.spec (λ c κs. search needs) (λ c κs. search needs) no-header (λ c κs. search needs) (λ c. search needs) (λ c. search needs) (λ c. search needs) (λ c. search needs)
-    (λ c. search needs) (λ c. search needs) (λ c κs. search needs) (λ c κs. search needs) no-addresses (λ c. search needs) (λ c κs. search needs) (λ c. search needs)
-    (λ c. search needs) (λ c. search needs) (λ c κs. search needs) all)
+    (tie.spec (λ c κs. search needs) (λ c κs. search needs) no-header (λ c κs. search needs) (λ c. search needs) (λ c. search needs)
+    (λ c. search needs) (λ c. search needs)
+    (λ c. search needs) (λ c. search needs) (λ c κs. search needs) (λ c κs. search needs) no-addresses (λ c. search needs)
+    (λ c κs. search needs) (λ c. search needs)
+    (λ c. search needs) (λ c. search needs) (λ c κs. search needs) (λ c κs. search needs) all)

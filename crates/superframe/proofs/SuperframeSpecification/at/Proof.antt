@@ -7,7 +7,13 @@ use Rattle.superframe.proofs.SuperframeSpecification.at.Tie as tie
 
 returns : tie.Need-returns
 unfolding superframeIn
-returns c = simp (c .from2 .ensures, c .before .from .ensures, c .before .before .u8-at2 .ensures, c .before .before .before .u8-at .ensures)
+returns c = simp (
+  c .from2 .ensures,
+  c .before .from .ensures,
+  c .before .before .u8-at2 .ensures,
+  c .before .before .before .u8-at .ensures,
+)
 
 pub at-spec : {M : Type 1} → statement M
-at-spec = tie.close (tie.spec (λ c κs. search needs) (λ c. search needs) (λ c κs. search needs) (λ c κs. search needs) (λ c κs. search needs) returns)
+at-spec = tie.close (tie.spec (λ c κs. search needs) (λ c. search needs) (λ c κs. search needs) (λ c κs. search needs)
+    (λ c κs. search needs) returns)

@@ -10,7 +10,11 @@ pub read-spec : {M : Type 1} → statement M
 unfolding readSuperframe
 read-spec =
     tie.close
-    (tie.spec (λ c κs. search needs) (λ c κs. search needs)
-    (λ c. simp (fewer (c .before .before .left .ensures) (c .before .if1 .taken), c .new .ensures))
-    (λ c κs. search needs)
-    (λ c. simp (enough (c .before .before .left .ensures) (c .before .if1 .left), c .at .ensures)))
+    (tie.spec (λ c κs. search needs) (λ c κs. search needs) (λ c κs. search needs)
+    (λ c.
+    let test = c .before .before in
+    simp (fewer (test .before .left .ensures) (test .if1 .taken), c .before .refused .ensures, c .new .ensures))
+    (λ c κs. search needs) (λ c κs. search needs)
+    (λ c.
+    let test = c .before .before in
+    simp (enough (test .before .left .ensures) (test .if1 .left), c .before .accepted .ensures, c .at .ensures)))

@@ -16,4 +16,5 @@ permit : tie.Need-add-result-3
 permit c = let fits = fitting _ (c .before .before .before .before .pre) in omega arith
 
 pub rest-spec : {M : Type 1} → statement M
-rest-spec = tie.close (tie.spec (λ c κs. search needs) (λ c. search needs) battery (λ c κs. search needs) (λ c. search needs) coordinator (λ c κs. search needs) (λ c. search needs) permit (λ c. search needs))
+rest-spec = tie.close (tie.spec (λ c κs. search needs) (λ c. search needs) battery (λ c κs. search needs) (λ c. search needs) coordinator
+    (λ c κs. search needs) (λ c. search needs) permit (λ c. search needs))

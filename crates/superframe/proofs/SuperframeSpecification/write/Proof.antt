@@ -1,36 +1,30 @@
--- `superframe::SuperframeSpecification::write` meets its contract: its tests are the definition's, and `put` stores what is left.
+-- `superframe::SuperframeSpecification::write` meets its contract: the three ends of a writer, and `put` stores where there is room.
 -- Assumes nothing.
-use mathlib.Core.Path.{refl, sym, _∙_}
-use native.Mathlib.Omega.{arith}
+use mathlib.Core.Path.{refl}
 use borrow.Author.Needs.{needs}
-use Rattle.octets.proofs.Part.{fewer, enough}
+use Rattle.octets.proofs.Value.{too-large, no-room, all-room, stored}
 use Rattle.superframe.specs.Superframe.{writeSuperframe}
 use Rattle.superframe.proofs.SuperframeSpecification.write.Statement.{statement}
 use Rattle.superframe.proofs.SuperframeSpecification.write.Tie as tie
 
-too-large : tie.Need-returns
-unfolding writeSuperframe
-too-large c = (simp (sym (c .before .too-large .ensures) ∙ c .if1 .taken), refl)
-
-full : tie.Need-returns-2
-unfolding writeSuperframe
-full c =
-    let one = c .before .before .before in
-    (simp (sym (one .before .too-large .ensures) ∙ one .if1 .left, fewer (c .before .left .ensures) (c .if2 .taken)), refl)
-
-fits : tie.Need-put-requires
-fits c κs =
-    let one = c .before .before .before .before in
-    (sym (one .before .too-large .ensures) ∙ one .if1 .left, omega (arith, c .before .before .left .ensures))
-
-written : tie.Need-returns-3
-unfolding writeSuperframe
-written c =
-    let two = c .before .before .before .before in
-    let one = two .before .before .before in (
-      simp (sym (one .before .too-large .ensures) ∙ one .if1 .left, enough (two .before .left .ensures) (two .if2 .left)),
-      c .before .before .put .ensures .1,
-    )
-
 pub write-spec : {M : Type 1} → statement M
-write-spec = tie.close (tie.spec (λ c κs. search needs) too-large (λ c κs. search needs) (λ c. search needs) full fits (λ c. search needs) written)
+unfolding writeSuperframe
+write-spec =
+    tie.close
+    (tie.spec (λ c κs. search needs)
+    (λ c. (too-large (c .before .too-large .ensures) _ (c .if1 .taken), refl))
+    (λ c κs. search needs) (λ c. search needs)
+    (λ c.
+    let test = c .before .before .before in
+    (no-room (test .before .too-large .ensures) (test .if1 .left) refl (c .before .left .ensures) (c .if2 .taken), refl))
+    (λ c κs.
+    let room = c .before in
+    let test = room .before .before .before in
+    all-room (test .before .too-large .ensures) (test .if1 .left) refl (room .before .left .ensures) (room .if2 .left))
+    (λ c. search needs)
+    (λ c.
+    let room = c .before .before .before .before in
+    let test = room .before .before .before in (
+      stored (test .before .too-large .ensures) (test .if1 .left) refl (room .before .left .ensures) (room .if2 .left),
+      c .before .before .put .ensures .1,
+    )))

@@ -18,7 +18,7 @@ list-room c κs =
     let first = c .before .before .before in
     let a = first .before .before .before .before .before in
     let fits = fitting (a .args .self) (a .pre .0) in
-    (fits .0, (fits .1, omega (arith, first .put .kept .0, first .put .ensures .0, a .pre .1)))
+    (fits .0, (fits .1, omega (arith, first .put .kept .1 .1 .0, first .put .ensures .0, a .pre .1)))
 
 returns : tie.Need-returns
 unfolding timeSlotsBytes
@@ -27,7 +27,8 @@ returns c =
     let first = second .before .before .before .before in (
       omega (arith, second .put-list .ensures .0, first .put .ensures .0),
       (
-        laid-two _ _ 1 _ _ _ (split-length 1 _) (first .put .ensures .0) (rw (first .before .before .header .ensures) at (first .put .ensures .1)) (second .put-list .ensures .1 .0),
+        laid-two _ _ 1 _ _ _ (split-length 1 _) (first .put .ensures .0)
+            (rw (first .before .before .header .ensures) at (first .put .ensures .1)) (second .put-list .ensures .1 .0),
         rw (length-append, split-length, second .put-list .ensures .1 .1),
       ),
     )

@@ -28,25 +28,36 @@ no-slots c =
 there : tie.Need-slots-at-requires
 there c κs =
     let demand = c .before in
-    let header = demand .before .before in
-    (omega arith, omega (arith, demand .slots-demand .ensures .0, demand .before .left2 .ensures, demand-enough (header .u8-at .result % 8)))
+    let header = demand .before .before in (
+      omega arith,
+      omega (
+        arith,
+        demand .slots-demand .ensures .0,
+        demand .before .left2 .ensures,
+        demand-enough (header .u8-at .result % 8),
+      ),
+    )
 
 all : tie.Need-returns-3
 unfolding readTimeSlots timeSlotsIn
 all c =
-    let two = c .before .before in
+    let slots = c .before .before in
+    let two = slots .before in
     let header = two .before .before .before in
     let one = header .before in
     simp (
       enough (one .before .left .ensures) (one .if1 .left),
       enough (two .before .before .left2 .ensures) (rw (two .before .slots-demand .ensures .0, header .u8-at .ensures) at (two .if2 .left)),
-      c .slots-length .ensures .0,
-      c .before .slots-at .ensures,
+      c .accepted .ensures,
+      c .before .slots-length .ensures .0,
+      slots .slots-at .ensures,
       header .u8-at .ensures,
     )
 
 pub read-spec : {M : Type 1} → statement M
 read-spec =
     tie.close
-    (tie.spec (λ c κs. search needs) (λ c κs. search needs) no-header (λ c κs. search needs) (λ c. search needs) (λ c κs. search needs) (λ c κs. search needs)
-    (λ c. search needs) (λ c κs. search needs) no-slots (λ c. search needs) there (λ c κs. search needs) (λ c. search needs) all)
+    (tie.spec (λ c κs. search needs) (λ c κs. search needs) no-header (λ c κs. search needs) (λ c. search needs) (λ c κs. search needs)
+    (λ c κs. search needs)
+    (λ c. search needs) (λ c κs. search needs) no-slots (λ c. search needs) there (λ c κs. search needs) (λ c. search needs)
+    (λ c κs. search needs) all)

@@ -32,13 +32,15 @@ refused-number Refusal.FrameType e = omega arith
 refused-number Refusal.AddressMode e = omega arith
 refused-number Refusal.Compression e = omega arith
 
-behind-within : (s : List ℕ) (at : ℕ) → at ≤ length s → behindBeacon at (readBeacon s at .outcome) .number ≡ 0 → behindBeacon at (readBeacon s at .outcome) .length ≤ length s
+behind-within : (s : List ℕ) (at : ℕ) → at ≤ length s → behindBeacon at (readBeacon s at .outcome) .number ≡ 0 →
+    behindBeacon at (readBeacon s at .outcome) .length ≤ length s
 behind-within s at h e =
     cases (holds? (eqb (readBeacon s at .outcome .number) 0))
     (λ t. simp t (omega (arith, beacon-within s at (eqb-true _ 0 t))))
     (λ f. absurd (eqb-false (readBeacon s at .outcome .number) 0 f (simp f at e)))
 
-after-within : (s : List ℕ) (r : HeaderRead) → readHeader s ≡ r → frameAfter s r .outcome .number ≡ 0 → frameAfter s r .outcome .length ≤ length s
+after-within : (s : List ℕ) (r : HeaderRead) → readHeader s ≡ r → frameAfter s r .outcome .number ≡ 0 →
+    frameAfter s r .outcome .length ≤ length s
 after-within s (Refused r) e f = absurd (refused-number r f)
 after-within s (Read h n) e f =
     let within = length-bounds s h n e .2 in

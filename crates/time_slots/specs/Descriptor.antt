@@ -4,10 +4,10 @@ use Rattle.octets.specs.Words.{ℕ, _+_, _*_, _%_, Bool, _||_, List, [], _∷_,
 use Rattle.octets.specs.{declared.ValueWritten.ValueWritten, Bits.bits, Little.number, Little.split, Order.first}
 use Rattle.octets.specs.{Outcome.accepted, Outcome.refused, Part.ends, Value.writeValue}
 use Rattle.identifiers.specs.{declared.ShortAddress.ShortAddress, ShortAddress.short}
-use Rattle.time_slot.specs.{declared.Direction.Direction}
-use Rattle.time_slot.specs.{declared.GuaranteedTimeSlotDescriptor.GuaranteedTimeSlotDescriptor}
-use Rattle.time_slot.specs.{declared.DescriptorRead.DescriptorRead}
-use Rattle.time_slot.specs.declared.Direction.the-variants.{Receive}
+use Rattle.time_slots.specs.{declared.Direction.Direction}
+use Rattle.time_slots.specs.{declared.GuaranteedTimeSlotDescriptor.GuaranteedTimeSlotDescriptor}
+use Rattle.time_slots.specs.{declared.DescriptorRead.DescriptorRead}
+use Rattle.time_slots.specs.declared.Direction.the-variants.{Receive}
 
 abbrev pub descriptorOf : ShortAddress → ℕ → ℕ → Direction → GuaranteedTimeSlotDescriptor
 descriptorOf address start length direction =
@@ -19,7 +19,9 @@ emptyDescriptor = descriptorOf (short 0xffff) 0 0 Receive
 
 -- the descriptor at a place, with its direction, which stands elsewhere
 unfoldable pub descriptorIn : List ℕ → ℕ → Direction → GuaranteedTimeSlotDescriptor
-descriptorIn s at direction = descriptorOf (short (number s at 2)) (number s (at + 2) 1 % 16) (bits (number s (at + 2) 1) 4 4) direction
+descriptorIn s at direction =
+    let slot = number s (at + 2) 1 in
+    descriptorOf (short (number s at 2)) (slot % 16) (bits slot 4 4) direction
 
 -- and what reading it there alone answers
 unfoldable pub readDescriptor : List ℕ → ℕ → DescriptorRead

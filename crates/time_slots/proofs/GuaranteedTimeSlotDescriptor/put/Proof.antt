@@ -1,13 +1,13 @@
--- `time_slot::GuaranteedTimeSlotDescriptor::put` meets its contract: two stores side by side are one.
+-- `time_slots::GuaranteedTimeSlotDescriptor::put` meets its contract: two stores side by side are one.
 -- Assumes nothing.
 use native.Mathlib.Omega.{arith}
 use borrow.Author.Needs.{needs}
 use Rattle.octets.proofs.Little.{split-length}
 use Rattle.octets.proofs.Buffer.{laid-two}
-use Rattle.time_slot.specs.Descriptor.{descriptorBytes}
-use Rattle.time_slot.proofs.Descriptor.{fitting}
-use Rattle.time_slot.proofs.GuaranteedTimeSlotDescriptor.put.Statement.{statement}
-use Rattle.time_slot.proofs.GuaranteedTimeSlotDescriptor.put.Tie as tie
+use Rattle.time_slots.specs.Descriptor.{descriptorBytes}
+use Rattle.time_slots.proofs.Descriptor.{fitting}
+use Rattle.time_slots.proofs.GuaranteedTimeSlotDescriptor.put.Statement.{statement}
+use Rattle.time_slots.proofs.GuaranteedTimeSlotDescriptor.put.Tie as tie
 
 high : tie.Need-mul-slot
 high c = let fits = fitting _ (c .before .before .pre .0) in omega arith

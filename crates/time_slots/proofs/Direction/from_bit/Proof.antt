@@ -1,10 +1,10 @@
--- `time_slot::Direction::from_bit` meets its contract.
+-- `time_slots::Direction::from_bit` meets its contract.
 -- Assumes nothing.
 use mathlib.Core.Path.{sym, _∙_}
 use borrow.Author.Needs.{needs}
 use borrow.Author.Tests.{eq-eqb, ne-eqb}
-use Rattle.time_slot.proofs.Direction.from_bit.Statement.{statement}
-use Rattle.time_slot.proofs.Direction.from_bit.Tie as tie
+use Rattle.time_slots.proofs.Direction.from_bit.Statement.{statement}
+use Rattle.time_slots.proofs.Direction.from_bit.Tie as tie
 
 transmit : tie.Need-returns
 transmit c = simp (eq-eqb _ _ (c .if1 .taken ∙ c .before .to-bit .ensures .0))

@@ -16,7 +16,8 @@ use Rattle.beacon.specs.declared.BeaconRead.{BeaconRead}
 use Rattle.beacon.specs.Beacon.{pendingPlace, beaconLengthIn, beaconRefused, readBeacon}
 use Rattle.beacon_facts.proofs.Beacon.{whole}
 
-told : (s : List ℕ) (at : ℕ) → readBeacon s at .outcome ≡ cond (ends s at (beaconLengthIn s at)) (refused 1) (accepted (beaconLengthIn s at))
+told : (s : List ℕ) (at : ℕ) → readBeacon s at .outcome ≡ cond (ends s at (beaconLengthIn s at)) (refused 1)
+    (accepted (beaconLengthIn s at))
 told s at =
     ap (λ (r : BeaconRead). r .outcome) (whole s at)
     ∙ first-map (λ (r : BeaconRead). r .outcome) ((ends s at (beaconLengthIn s at), beaconRefused) ∷ []) _
@@ -33,7 +34,8 @@ pub beacon-least : (s : List ℕ) (at : ℕ) → (4 ≤ beaconLengthIn s at) × 
 unfolding beaconLengthIn
 beacon-least s at = (omega arith, omega arith)
 
-pub beacon-parts : (s : List ℕ) (at m n : ℕ) → m ≡ timeSlotsLengthIn s (at + 2) → n ≡ pendingLengthIn s (at + (2 + m)) → 2 + m + n ≡ beaconLengthIn s at
+pub beacon-parts : (s : List ℕ) (at m n : ℕ) → m ≡ timeSlotsLengthIn s (at + 2) → n ≡ pendingLengthIn s (at + (2 + m)) →
+    2 + m + n ≡ beaconLengthIn s at
 unfolding beaconLengthIn
 beacon-parts s at m n e f =
     let place : at + (2 + m) ≡ pendingPlace s at = omega arith in

@@ -11,9 +11,9 @@ use Rattle.octets.specs.Outcome.{accepted}
 use Rattle.octets.specs.Part.{ends}
 use Rattle.octets.proofs.Little.{split-length}
 use Rattle.octets.proofs.Cases.{cases, holds?, neither}
-use Rattle.time_slot.specs.declared.Direction.the-variants.{Receive}
-use Rattle.time_slot.specs.declared.GuaranteedTimeSlotDescriptor.{GuaranteedTimeSlotDescriptor}
-use Rattle.time_slot.specs.Descriptor.{descriptorIn, readDescriptor, descriptorBytes, descriptorTooLarge}
+use Rattle.time_slots.specs.declared.Direction.the-variants.{Receive}
+use Rattle.time_slots.specs.declared.GuaranteedTimeSlotDescriptor.{GuaranteedTimeSlotDescriptor}
+use Rattle.time_slots.specs.Descriptor.{descriptorIn, readDescriptor, descriptorBytes, descriptorTooLarge}
 
 pub descriptor-length : (x : GuaranteedTimeSlotDescriptor) → length (descriptorBytes x) ≡ 3
 unfolding descriptorBytes

@@ -1,9 +1,9 @@
--- `time_slot::GuaranteedTimeSlotDescriptor::at` meets its contract.
+-- `time_slots::GuaranteedTimeSlotDescriptor::at` meets its contract.
 -- Assumes nothing.
 use borrow.Author.Needs.{needs}
-use Rattle.time_slot.specs.Descriptor.{descriptorIn}
-use Rattle.time_slot.proofs.GuaranteedTimeSlotDescriptor.at.Statement.{statement}
-use Rattle.time_slot.proofs.GuaranteedTimeSlotDescriptor.at.Tie as tie
+use Rattle.time_slots.specs.Descriptor.{descriptorIn}
+use Rattle.time_slots.proofs.GuaranteedTimeSlotDescriptor.at.Statement.{statement}
+use Rattle.time_slots.proofs.GuaranteedTimeSlotDescriptor.at.Tie as tie
 
 returns : tie.Need-returns
 unfolding descriptorIn
