@@ -1,19 +1,19 @@
 -- A beacon's content, document 01, "Beacon layout" (IEEE 802.15.4-2011, 5.2.2.1): superframe specification, GTS
 -- information and pending addresses, side by side.
 use Rattle.octets.specs.Words.{ℕ, _+_, Bool, not, _||_, List, [], _∷_, _++_, eqb}
-use Rattle.octets.specs.{declared.Outcome.Outcome, declared.ValueWritten.ValueWritten, Order.first, Outcome.accepted}
-use Rattle.octets.specs.{Outcome.refused, Value.writeValue}
-use Rattle.superframe.specs.{declared.SuperframeSpecification.SuperframeSpecification, Superframe.emptySuperframe}
-use Rattle.superframe.specs.{Superframe.superframeIn, Superframe.readSuperframe, Superframe.superframeBytes}
-use Rattle.superframe.specs.{Superframe.superframeTooLarge}
-use Rattle.time_slots.specs.{declared.GuaranteedTimeSlotInformation.GuaranteedTimeSlotInformation}
-use Rattle.time_slots.specs.{TimeSlots.emptyTimeSlots, TimeSlots.timeSlotsIn, TimeSlots.timeSlotsLengthIn}
-use Rattle.time_slots.specs.{TimeSlots.readTimeSlots, TimeSlots.timeSlotsBytes, TimeSlots.timeSlotsSize}
-use Rattle.time_slots.specs.{TimeSlots.timeSlotsTooLarge}
-use Rattle.pending.specs.{declared.PendingAddress.PendingAddress, Pending.emptyPending, Pending.pendingIn}
-use Rattle.pending.specs.{Pending.pendingLengthIn, Pending.readPending, Pending.pendingBytes, Pending.pendingSize}
-use Rattle.pending.specs.{Pending.pendingTooLarge}
-use Rattle.beacon.specs.{declared.Beacon.Beacon, declared.BeaconRead.BeaconRead}
+use Rattle.octets.specs.declared.{Outcome.Outcome, ValueWritten.ValueWritten}
+use Rattle.octets.specs.{Order.first, Value.writeValue}
+use Rattle.octets.specs.Outcome.{accepted, refused}
+use Rattle.superframe.specs.declared.{SuperframeSpecification.SuperframeSpecification}
+use Rattle.superframe.specs.Superframe.{emptySuperframe, superframeIn, readSuperframe, superframeBytes}
+use Rattle.superframe.specs.Superframe.{superframeTooLarge}
+use Rattle.time_slots.specs.declared.{GuaranteedTimeSlotInformation.GuaranteedTimeSlotInformation}
+use Rattle.time_slots.specs.TimeSlots.{emptyTimeSlots, timeSlotsIn, timeSlotsLengthIn, readTimeSlots, timeSlotsBytes}
+use Rattle.time_slots.specs.TimeSlots.{timeSlotsSize, timeSlotsTooLarge}
+use Rattle.pending.specs.declared.{PendingAddress.PendingAddress}
+use Rattle.pending.specs.Pending.{emptyPending, pendingIn, pendingLengthIn, readPending, pendingBytes, pendingSize}
+use Rattle.pending.specs.Pending.{pendingTooLarge}
+use Rattle.beacon.specs.declared.{Beacon.Beacon, BeaconRead.BeaconRead}
 
 abbrev pub beaconOf : SuperframeSpecification → GuaranteedTimeSlotInformation → PendingAddress → Beacon
 beaconOf superframe slots pending =

@@ -1,10 +1,10 @@
 -- The bytes that were read, but for the bits that writing clears. Document 01, "Bits that writing clears": "byte 1 bit
 -- 5; GTS header bits 3-6; direction bits n to 7 where n > 0; pending header bits 3 and 7. No others".
 use Rattle.octets.specs.Words.{ℕ, zero, suc, _+_, _-_, List, take, drop}
-use Rattle.octets.specs.{Bits.clearAt}
-use Rattle.time_slots.specs.{TimeSlots.slotCountIn, TimeSlots.timeSlotsLengthIn}
-use Rattle.pending.specs.{Pending.pendingLengthIn}
-use Rattle.beacon.specs.{Beacon.beaconLengthIn}
+use Rattle.octets.specs.Bits.{clearAt}
+use Rattle.time_slots.specs.TimeSlots.{slotCountIn, timeSlotsLengthIn}
+use Rattle.pending.specs.Pending.{pendingLengthIn}
+use Rattle.beacon.specs.Beacon.{beaconLengthIn}
 
 -- the n bytes from a place on
 abbrev pub part : List ℕ → ℕ → ℕ → List ℕ

@@ -1,7 +1,8 @@
 -- Demand 3 for any part that can be read and written: what is promised of a value that was read, and of a value that is
 -- written.
 use Rattle.octets.specs.Words.{ℕ, _-_, _≤_, Bool, false, List, _++_, _≡_, length}
-use Rattle.octets.specs.{declared.ValueWritten.ValueWritten, Little.Bytes}
+use Rattle.octets.specs.declared.{ValueWritten.ValueWritten}
+use Rattle.octets.specs.Little.{Bytes}
 use Rattle.octets.specs.declared.ValueWritten.the-variants.{Written}
 
 -- the definitions of one part: values X, reader's answers R

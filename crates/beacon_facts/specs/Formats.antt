@@ -1,27 +1,27 @@
 -- The beacon and each of its parts as formats.
 use Rattle.octets.specs.Words.{ℕ, _-_, _^_, _<_, List, _≡_, length, getD}
-use Rattle.octets.specs.{Outcome.accepted}
-use Rattle.identifiers.specs.{declared.ShortAddress.ShortAddress, declared.ExtendedAddress.ExtendedAddress}
-use Rattle.seven_places.specs.{Seven.reset}
-use Rattle.superframe.specs.{declared.SuperframeSpecification.SuperframeSpecification}
-use Rattle.superframe.specs.{declared.SuperframeRead.SuperframeRead, Superframe.readSuperframe}
-use Rattle.superframe.specs.{Superframe.superframeBytes, Superframe.superframeTooLarge, Superframe.writeSuperframe}
-use Rattle.time_slots.specs.{declared.GuaranteedTimeSlotDescriptor.GuaranteedTimeSlotDescriptor}
-use Rattle.time_slots.specs.{declared.DescriptorRead.DescriptorRead}
-use Rattle.time_slots.specs.{declared.GuaranteedTimeSlotInformation.GuaranteedTimeSlotInformation}
-use Rattle.time_slots.specs.{declared.TimeSlotsRead.TimeSlotsRead, Descriptor.descriptorOf, Descriptor.emptyDescriptor}
-use Rattle.time_slots.specs.{Descriptor.readDescriptor, Descriptor.descriptorBytes, Descriptor.descriptorTooLarge}
-use Rattle.time_slots.specs.{Descriptor.writeDescriptor, TimeSlots.slotsLength, TimeSlots.slotsDemand}
-use Rattle.time_slots.specs.{TimeSlots.timeSlotsOf, TimeSlots.readTimeSlots, TimeSlots.timeSlotsBytes}
-use Rattle.time_slots.specs.{TimeSlots.timeSlotsSize, TimeSlots.timeSlotsTooLarge, TimeSlots.writeTimeSlots}
+use Rattle.octets.specs.Outcome.{accepted}
+use Rattle.identifiers.specs.declared.{ShortAddress.ShortAddress, ExtendedAddress.ExtendedAddress}
+use Rattle.seven_places.specs.Seven.{reset}
+use Rattle.superframe.specs.declared.{SuperframeSpecification.SuperframeSpecification, SuperframeRead.SuperframeRead}
+use Rattle.superframe.specs.Superframe.{readSuperframe, superframeBytes, superframeTooLarge, writeSuperframe}
+use Rattle.time_slots.specs.declared.{GuaranteedTimeSlotDescriptor.GuaranteedTimeSlotDescriptor}
+use Rattle.time_slots.specs.declared.{DescriptorRead.DescriptorRead}
+use Rattle.time_slots.specs.declared.{GuaranteedTimeSlotInformation.GuaranteedTimeSlotInformation}
+use Rattle.time_slots.specs.declared.{TimeSlotsRead.TimeSlotsRead}
+use Rattle.time_slots.specs.Descriptor.{descriptorOf, emptyDescriptor, readDescriptor, descriptorBytes}
+use Rattle.time_slots.specs.Descriptor.{descriptorTooLarge, writeDescriptor}
+use Rattle.time_slots.specs.TimeSlots.{slotsLength, slotsDemand, timeSlotsOf, readTimeSlots, timeSlotsBytes}
+use Rattle.time_slots.specs.TimeSlots.{timeSlotsSize, timeSlotsTooLarge, writeTimeSlots}
 use Rattle.time_slots.specs.declared.Direction.the-variants.{Receive}
-use Rattle.pending.specs.{declared.PendingAddress.PendingAddress, declared.PendingRead.PendingRead}
-use Rattle.pending.specs.{Addresses.emptyShort, Addresses.emptyExtended, Pending.pendingOf, Pending.readPending}
-use Rattle.pending.specs.{Pending.pendingBytes, Pending.pendingSize, Pending.pendingTooLarge, Pending.writePending}
-use Rattle.beacon.specs.{declared.Beacon.Beacon, declared.BeaconRead.BeaconRead, Beacon.beaconOf, Beacon.readBeacon}
-use Rattle.beacon.specs.{Beacon.beaconBytes, Beacon.beaconSize, Beacon.beaconTooLarge, Beacon.writeBeacon}
-use Rattle.beacon_facts.specs.{Cleared.superframeCleared, Cleared.descriptorCleared, Cleared.timeSlotsCleared}
-use Rattle.beacon_facts.specs.{Cleared.pendingCleared, Cleared.beaconCleared, Format.Format}
+use Rattle.pending.specs.declared.{PendingAddress.PendingAddress, PendingRead.PendingRead}
+use Rattle.pending.specs.Addresses.{emptyShort, emptyExtended}
+use Rattle.pending.specs.Pending.{pendingOf, readPending, pendingBytes, pendingSize, pendingTooLarge, writePending}
+use Rattle.beacon.specs.declared.{Beacon.Beacon, BeaconRead.BeaconRead}
+use Rattle.beacon.specs.Beacon.{beaconOf, readBeacon, beaconBytes, beaconSize, beaconTooLarge, writeBeacon}
+use Rattle.beacon_facts.specs.Cleared.{superframeCleared, descriptorCleared, timeSlotsCleared, pendingCleared}
+use Rattle.beacon_facts.specs.Cleared.{beaconCleared}
+use Rattle.beacon_facts.specs.Format.{Format}
 
 abbrev pub superframe : Format SuperframeSpecification SuperframeRead
 superframe =

@@ -1,11 +1,12 @@
 -- The refusals of a beacon and its parts as plain tests with document 01's numbers, in their order ("Refusal numbers"):
 -- reading, only 1; writing, 8 and then 1. Each is given exactly when it is the first that holds.
 use Rattle.octets.specs.Words.{ℕ, _+_, Bool, List, [], _∷_, _≡_}
-use Rattle.octets.specs.{declared.Outcome.Outcome, Order.first, Part.ends, Value.valueOutcome}
-use Rattle.time_slots.specs.{TimeSlots.slotsDemand, TimeSlots.slotCountIn}
-use Rattle.pending.specs.{Pending.pendingLengthIn}
-use Rattle.beacon.specs.{Beacon.beaconLengthIn}
-use Rattle.beacon_facts.specs.{Format.Format}
+use Rattle.octets.specs.declared.{Outcome.Outcome}
+use Rattle.octets.specs.{Order.first, Part.ends, Value.valueOutcome}
+use Rattle.time_slots.specs.TimeSlots.{slotsDemand, slotCountIn}
+use Rattle.pending.specs.Pending.{pendingLengthIn}
+use Rattle.beacon.specs.Beacon.{beaconLengthIn}
+use Rattle.beacon_facts.specs.Format.{Format}
 
 -- reading: the part's bytes are not all there
 abbrev pub superframeTests : List ℕ → ℕ → List (Bool × ℕ)

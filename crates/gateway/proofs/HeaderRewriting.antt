@@ -16,11 +16,10 @@ use Rattle.octets.specs.Outcome.{accepted}
 use Rattle.octets.proofs.Bits.{clear-append, clear-length}
 use Rattle.octets.proofs.Cases.{cases, holds?}
 use Rattle.header.specs.declared.Header.{Header}
-use Rattle.header.specs.declared.HeaderRefusal.{HeaderRefusal}
-use Rattle.header.specs.declared.HeaderRefusal.the-variants as Refusal
 use Rattle.header.specs.declared.HeaderRead.{HeaderRead}
 use Rattle.header.specs.declared.HeaderRead.the-variants.{Read, Refused}
-use Rattle.header.specs.Read.{readHeader, readNumber, readOutcome}
+use Rattle.header.specs.Read.{readHeader, readOutcome}
+use Rattle.header.proofs.Bounds.{refusal-some}
 use Rattle.header_facts.specs.Order.{fromEnd, lacksSource}
 use Rattle.header_facts.specs.RoundTrip.{clearedBy}
 use Rattle.header_facts.proofs.Rewrite.{written, Measured, header-measured}
@@ -40,13 +39,6 @@ cleared-append w l m h k =
     (λ f. simp f two)
 
 -- what reading answers, and what rewriting answers of it
-refusal-some : (r : HeaderRefusal) → readNumber r ≡ 0 → ⊥
-refusal-some Refusal.Ended e = omega arith
-refusal-some Refusal.Version e = omega arith
-refusal-some Refusal.FrameType e = omega arith
-refusal-some Refusal.AddressMode e = omega arith
-refusal-some Refusal.Compression e = omega arith
-
 refused-answer : (r : HeaderRead) (room : ℕ) → (readOutcome r .number ≡ 0 → ⊥) → readOutcome r ≡ writtenAfter r room
 refused-answer (Read h n) room f = absurd (f refl)
 refused-answer (Refused r) room f = refl

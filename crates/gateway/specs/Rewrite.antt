@@ -2,14 +2,17 @@
 -- writing clears") and what lay behind them in the output; or, on refusal, the output as it was. Reading's refusals
 -- come before writing's.
 use Rattle.octets.specs.Words.{ℕ, cond, List, _++_, eqb, length, drop}
-use Rattle.octets.specs.{declared.Outcome.Outcome, Outcome.accepted, Outcome.refused, Part.ends}
-use Rattle.security.specs.{Optional.counterRead}
-use Rattle.header.specs.{declared.HeaderRead.HeaderRead, Read.readHeader, Read.readNumber, Write.writeHeader}
-use Rattle.header.specs.{Write.writtenOutcome}
+use Rattle.octets.specs.declared.{Outcome.Outcome}
+use Rattle.octets.specs.Outcome.{accepted, refused}
+use Rattle.octets.specs.Part.{ends}
+use Rattle.security.specs.Optional.{counterRead}
+use Rattle.header.specs.declared.{HeaderRead.HeaderRead}
+use Rattle.header.specs.Read.{readHeader, readNumber}
+use Rattle.header.specs.Write.{writeHeader, writtenOutcome}
 use Rattle.header.specs.declared.HeaderRead.the-variants.{Read, Refused}
-use Rattle.header_facts.specs.{RoundTrip.cleared}
-use Rattle.beacon.specs.{Beacon.beaconLengthIn, Beacon.readBeacon}
-use Rattle.beacon_facts.specs.{Cleared.beaconCleared}
+use Rattle.header_facts.specs.RoundTrip.{cleared}
+use Rattle.beacon.specs.Beacon.{beaconLengthIn, readBeacon}
+use Rattle.beacon_facts.specs.Cleared.{beaconCleared}
 
 -- an output after a rewriting of n bytes b
 abbrev pub into : Outcome → List ℕ → ℕ → List ℕ → List ℕ

@@ -1,4 +1,5 @@
--- An accepted header occupies 3 to 37 bytes and never more than the input; an answer's number is at most 5.
+-- An accepted header occupies 3 to 37 bytes and never more than the input; an answer's number is at most 5, and 0 only
+-- where it accepts.
 -- Assumes nothing.
 use Prim.Native.Nat.{ℕ, _+_, _≤_}
 use native.Mathlib.Omega.{arith}
@@ -111,3 +112,11 @@ read-number s = outcome-number (readHeader s)
 
 pub read-length : (s : List ℕ) → readOutcome (readHeader s) .length ≤ 37
 read-length s = outcome-length (readHeader s) s refl
+
+-- a refusal has a number of its own
+pub refusal-some : (r : HeaderRefusal) → readNumber r ≡ 0 → ⊥
+refusal-some Refusal.Ended e = omega arith
+refusal-some Refusal.Version e = omega arith
+refusal-some Refusal.FrameType e = omega arith
+refusal-some Refusal.AddressMode e = omega arith
+refusal-some Refusal.Compression e = omega arith

@@ -78,7 +78,9 @@ front-more : (n : ℕ) → Front n → (s : List ℕ) → unhex (take (suc (suc 
 unfolding unhex Front
 front-more n f [] = refl
 front-more n f (a ∷ []) = refl
-front-more n f (a ∷ b ∷ s) = cases (holds? (isDigit a && isDigit b)) (λ e. simp e (ap (λ (l : List ℕ). (16 * digit a + digit b) ∷ l) (f s))) (λ e. simp e)
+front-more n f (a ∷ b ∷ s) =
+    cases (holds? (isDigit a && isDigit b)) (λ e. simp e (ap (λ (l : List ℕ). (16 * digit a + digit b) ∷ l) (f s)))
+    (λ e. simp e)
 
 pub unhex-take : (n : ℕ) (s : List ℕ) → unhex (take (2 * n) s) ≡ take n (unhex s)
 unfolding unhex Front
@@ -135,7 +137,8 @@ rest-all s at room =
     rw (e, f)
 
 pub rest-pair : (s : List ℕ) (at room n pair : ℕ) → n < room → at + 2 * n + 1 < length s →
-    pair ≡ 16 * worth (getD s (at + 2 * n) 0) + worth (getD s (at + 2 * n + 1) 0) → pair ≤ 255 → rest s at room n ≡ pair ∷ rest s at room (n + 1)
+    pair ≡ 16 * worth (getD s (at + 2 * n) 0) + worth (getD s (at + 2 * n + 1) 0) → pair ≤ 255 →
+    rest s at room n ≡ pair ∷ rest s at room (n + 1)
 rest-pair s at room n pair h k e g =
     let a : room - n ≡ suc (room - (n + 1)) = omega arith in
     let b : at + 2 * n + 2 ≡ at + 2 * (n + 1) = omega arith in

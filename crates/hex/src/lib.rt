@@ -62,7 +62,8 @@ fn most(s: &[u8], at: usize, room: usize) -> usize
 pub fn decode(s: &[u8], at: usize, values: &[u16; 256], out: &mut [u8]) -> usize
     requires { ⌜ Values (now values) ⌝ }
     ensures { λ r. ⌜ r ≡ length (decoded (now (s .entry)) at (length (now (out .entry)))) ⌝ }
-    ensures { λ r. ⌜ now (out .exit) ≡ laid (now (out .entry)) 0 (decoded (now (s .entry)) at (length (now (out .entry)))) ⌝ }
+    ensures { λ r. ⌜ now (out .exit)
+        ≡ laid (now (out .entry)) 0 (decoded (now (s .entry)) at (length (now (out .entry)))) ⌝ }
 {
     let end = most(s, at, out.len());
     let mut n = 0;

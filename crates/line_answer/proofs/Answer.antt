@@ -58,7 +58,8 @@ module _ (s t : List ℕ) (f : Free 9 s) where
   parted = rw (before-free 9 s t f, tabs-at s t f, drop-append-add s (9 ∷ t) 1)
 
   -- whole digits and no more than 1,024 bytes: the label, and what the header says
-  pub answer-good : length (s ++ (9 ∷ t)) ≤ 1024 → 2 * length (unhex t) ≡ length t → answer (s ++ (9 ∷ t)) ≡ s ++ told (readOutcome (readHeader (unhex t)))
+  pub answer-good : length (s ++ (9 ∷ t)) ≤ 1024 → 2 * length (unhex t) ≡ length t →
+      answer (s ++ (9 ∷ t)) ≡ s ++ told (readOutcome (readHeader (unhex t)))
   answer-good h w =
       let g = whole-good t w in
       parted ∙ simp (le-ltb _ _ h, tabs-free t (foreign-free 9 t tab-foreign (g .1)), g .0, g .1)
@@ -110,7 +111,8 @@ module _ (l : List ℕ) (tab n : ℕ) (e : tab ≡ length (before 9 9 l)) (short
 
   pub line-good : tab + 1 + 2 * n ≡ length l → take tab l ++ told (readOutcome (readHeader (decoded l (tab + 1) 512))) ≡ answer l
   line-good h =
-      let w : 2 * length (unhex (drop (tab + 1) l)) ≡ length (drop (tab + 1) l) = omega (arith, ap length all-decoded, length-drop (tab + 1) l) in
+      let w : 2 * length (unhex (drop (tab + 1) l)) ≡ length (drop (tab + 1) l) =
+      omega (arith, ap length all-decoded, length-drop (tab + 1) l) in
       let k : length (take tab l ++ (9 ∷ drop (tab + 1) l)) ≤ 1024 = rw (sym line-tab) short in
       ap (λ (u : List ℕ). take tab l ++ told (readOutcome (readHeader u))) all-decoded
       ∙ sym (answer-good (take tab l) (drop (tab + 1) l) label-free k w)

@@ -36,8 +36,8 @@ said frame = told (readOutcome (readHeader frame))
 unfoldable pub bad : List ℕ
 bad = 98 ∷ 97 ∷ 100 ∷ lineFeed ∷ []
 
--- `bad` above the longest line, without exactly one tab, with a digit left over or a foreign digit; else the label and what
--- the header says
+-- `bad` above the longest line, without exactly one tab, with a digit left over or a foreign digit; else the label and
+-- what the header says
 unfoldable pub answer : List ℕ → List ℕ
 answer l =
     first

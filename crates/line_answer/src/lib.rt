@@ -61,7 +61,8 @@ fn put_bad(out: &mut [u8], at: usize) -> usize
 // Stores the answer to a line that is not bad, from its label and its bytes. Asks for room: the label and six bytes.
 pub fn put_good(label: &[u8], frame: &[u8], out: &mut [u8], at: usize) -> usize
     requires { ⌜ at + length (now label) + 6 ≤ length (now out) ⌝ }
-    ensures { λ r. ⌜ Stored (now (out .entry)) at (now (label .entry) ++ said (now (frame .entry))) (now (out .exit)) r ⌝ }
+    ensures { λ r. ⌜ Stored (now (out .entry)) at
+        (now (label .entry) ++ said (now (frame .entry))) (now (out .exit)) r ⌝ }
     ensures { λ r. ⌜ r ≤ at + length (now (label .entry)) + 6 ⌝ }
 {
     let read = Header::read(frame);

@@ -26,17 +26,20 @@ module _ (answer : List ℕ → List ℕ) where
   fed-line x l t out o u r f s =
       let a = answer (l ++ x) in
       let b = answers answer (ended [] t) in
-      let bytes : laid o r b ≡ laid out u (a ++ b) = ap (λ (y : List ℕ). laid y r b) (s .bytes) ∙ laid-join out u r (length a) a b refl (s .next) in
+      let bytes : laid o r b ≡ laid out u (a ++ b) = ap (λ (y : List ℕ). laid y r b) (s .bytes)
+      ∙ laid-join out u r (length a) a b refl (s .next) in
       let used : r + length b ≡ u + length (a ++ b) = rw (length-append a b) (omega (arith, s .next)) in
       rw (ended-line x l t f, begun-line x l t f, bytes, used)
 
   pub fed-ended : (l s out o : List ℕ) (u r : ℕ) → lineEnds s ≡ true → Stored out u (answer (l ++ lineOf s)) o r →
       fedTo answer [] (behind s) o r ≡ fedTo answer l s out u
   fed-ended l s out o u r h t =
-      fed-line (lineOf s) l (behind s) out o u r (free-first lineFeed lineFeed s) t ∙ ap (λ (y : List ℕ). fedTo answer l y out u) (sym (line-ended s h))
+      fed-line (lineOf s) l (behind s) out o u r (free-first lineFeed lineFeed s) t
+      ∙ ap (λ (y : List ℕ). fedTo answer l y out u) (sym (line-ended s h))
 
   -- no line ends: nothing is written, and as much is kept as tells the line
-  pub fed-open : (l s out : List ℕ) (u : ℕ) → lineEnds s ≡ false → fedTo answer (take keptMost (l ++ lineOf s)) [] out u ≡ fedTo answer l s out u
+  pub fed-open : (l s out : List ℕ) (u : ℕ) → lineEnds s ≡ false →
+      fedTo answer (take keptMost (l ++ lineOf s)) [] out u ≡ fedTo answer l s out u
   unfolding fedTo ended begun
   fed-open l s out u h =
       let e = line-open s h in
@@ -88,7 +91,8 @@ module _ (answer : List ℕ → List ℕ) where
       ∙ append-assoc o (answers answer (ended l c)) (printed answer (take keptMost (begun l c)) cs)
 
   -- however the input is cut into chunks, what is written is the output of the whole, where an answer looks at no more than is kept
-  pub printed-whole : ((l : List ℕ) → answer (take keptMost l) ≡ answer l) → (cs : List (List ℕ)) → printed answer [] cs ≡ output answer (joined cs)
+  pub printed-whole : ((l : List ℕ) → answer (take keptMost l) ≡ answer l) → (cs : List (List ℕ)) →
+      printed answer [] cs ≡ output answer (joined cs)
   unfolding output write
   printed-whole sees cs =
       sym (in-chunks [] [] cs)

@@ -47,7 +47,9 @@ before-part a b at end s e = let f : end - at ≡ length (before a b s) = omega 
 pub before-length : (a b : ℕ) (s : List ℕ) → length (before a b s) ≤ length s
 unfolding before
 before-length a b [] = omega arith
-before-length a b (c ∷ s) = cases (holds? (eqb c a || eqb c b)) (λ e. simp e (omega arith)) (λ e. simp e (omega (arith, before-length a b s)))
+before-length a b (c ∷ s) =
+    cases (holds? (eqb c a || eqb c b)) (λ e. simp e (omega arith))
+    (λ e. simp e (omega (arith, before-length a b s)))
 
 -- no element of a list is a
 abbrev pub Free : ℕ → List ℕ → Type 0

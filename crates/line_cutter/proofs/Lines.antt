@@ -40,7 +40,8 @@ pub ended-join : (l s t : List ℕ) → ended l (s ++ t) ≡ ended l s ++ ended 
 unfolding ended begun
 ended-join l [] t = refl
 ended-join l (b ∷ s) t =
-    cases (holds? (eqb b 10)) (λ e. simp e (ap (λ (y : List (List ℕ)). l ∷ y) (ended-join [] s t))) (λ e. simp e (ended-join (l ++ (b ∷ [])) s t))
+    cases (holds? (eqb b 10)) (λ e. simp e (ap (λ (y : List (List ℕ)). l ∷ y) (ended-join [] s t)))
+    (λ e. simp e (ended-join (l ++ (b ∷ [])) s t))
 
 pub begun-join : (l s t : List ℕ) → begun l (s ++ t) ≡ begun (begun l s) t
 unfolding begun

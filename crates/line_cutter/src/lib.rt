@@ -10,7 +10,7 @@ use octets::copy;
 pub const LINE_MOST: usize = 1024;
 
 // How much of a line is kept: one byte more tells that it is too long.
-pub const KEPT_MOST: usize = 1025;
+pub const KEPT_MOST: usize = LINE_MOST + 1;
 
 // What was taken of a chunk: how many bytes of the line at hand are kept, the place up to which the chunk is used, and
 // whether the line has ended.
@@ -42,7 +42,8 @@ pub fn find(s: &[u8], at: usize, a: u8, b: u8) -> usize
 // room. The line feed is used up, and is not kept.
 pub fn cut(chunk: &[u8], at: usize, line: &mut [u8], n: usize) -> Taken
     ensures { λ r. ⌜ r ≡ taken (drop at (now (chunk .entry))) at (now (line .entry)) n ⌝ }
-    ensures { λ r. ⌜ now (line .exit) ≡ laid (now (line .entry)) n (fitting (now (line .entry)) n (lineOf (drop at (now (chunk .entry))))) ⌝ }
+    ensures { λ r. ⌜ now (line .exit)
+        ≡ laid (now (line .entry)) n (fitting (now (line .entry)) n (lineOf (drop at (now (chunk .entry))))) ⌝ }
 {
     if at >= chunk.len() {
         return Taken {

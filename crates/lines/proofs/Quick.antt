@@ -55,7 +55,9 @@ module _ (chunk : List ℕ) (at tab n : ℕ) (e : tab ≡ at + length (before 9 
 
   digits-bytes : unhex digits ≡ decoded chunk (tab + 1) 512
   unfolding digits
-  digits-bytes = unhex-take n (drop (tab + 1) chunk) ∙ ap (λ (k : ℕ). take k (unhex (drop (tab + 1) chunk))) f ∙ take-again 512 (unhex (drop (tab + 1) chunk))
+  digits-bytes =
+      unhex-take n (drop (tab + 1) chunk) ∙ ap (λ (k : ℕ). take k (unhex (drop (tab + 1) chunk))) f
+      ∙ take-again 512 (unhex (drop (tab + 1) chunk))
 
   digits-whole : 2 * length (unhex digits) ≡ length digits
   digits-whole = omega (arith, ap length digits-bytes, digits-length, f)

@@ -45,7 +45,8 @@ fn put_line(
     requires { ⌜ at < length (now chunk) ⌝ }
     requires { ⌜ used + n + 5 * (length (now chunk) - at) ≤ length (now out) ⌝ }
     requires { ⌜ Values (now values) ⌝ }
-    ensures { λ r. ⌜ fedTo answer (take (r .n) (now (line .exit))) (drop (r .at) (now (chunk .entry))) (now (out .exit)) (r .used)
+    ensures { λ r. ⌜ fedTo answer (take (r .n) (now (line .exit))) (drop (r .at) (now (chunk .entry)))
+        (now (out .exit)) (r .used)
         ≡ fedTo answer (take n (now (line .entry))) (drop at (now (chunk .entry))) (now (out .entry)) used ⌝ }
     ensures { λ r. ⌜ Onward (length (now (chunk .entry))) at (r .n) (r .at) ⌝ }
     ensures { λ r. ⌜ r .used + r .n + 5 * (length (now (chunk .entry)) - r .at)
@@ -93,7 +94,8 @@ fn put_quick(
     ensures { λ r. ⌜ r .n ≡ 0 ⌝ }
     ensures { λ r. ⌜ at ≤ r .at ⌝ }
     ensures { λ r. ⌜ r .at ≤ length (now (chunk .entry)) ⌝ }
-    ensures { λ r. ⌜ r .used + 5 * (length (now (chunk .entry)) - r .at) ≤ used + 5 * (length (now (chunk .entry)) - at) ⌝ }
+    ensures { λ r. ⌜ r .used + 5 * (length (now (chunk .entry)) - r .at)
+        ≤ used + 5 * (length (now (chunk .entry)) - at) ⌝ }
 {
     let tab = find(chunk, at, b'\t', b'\n');
     if !is_at(chunk, tab, b'\t') {
@@ -132,7 +134,8 @@ fn put_next(
     requires { ⌜ length (now frame) ≡ 512 ⌝ }
     requires { ⌜ used + n + 5 * (length (now chunk) - at) ≤ length (now out) ⌝ }
     requires { ⌜ Values (now values) ⌝ }
-    ensures { λ r. ⌜ fedTo answer (take (r .n) (now (line .exit))) (drop (r .at) (now (chunk .entry))) (now (out .exit)) (r .used)
+    ensures { λ r. ⌜ fedTo answer (take (r .n) (now (line .exit))) (drop (r .at) (now (chunk .entry)))
+        (now (out .exit)) (r .used)
         ≡ fedTo answer (take n (now (line .entry))) (drop at (now (chunk .entry))) (now (out .entry)) used ⌝ }
     ensures { λ r. ⌜ Onward (length (now (chunk .entry))) at (r .n) (r .at) ⌝ }
     ensures { λ r. ⌜ r .used + r .n + 5 * (length (now (chunk .entry)) - r .at)
@@ -175,7 +178,8 @@ fn feed_lines(chunk: &[u8], line: &mut [u8], n: usize, out: &mut [u8]) -> Fed
 
 // Stores zeros from a place of a line buffer on.
 fn blank(line: &mut [u8], from: usize)
-    ensures { λ r. ⌜ now (line .exit) ≡ take from (now (line .entry)) ++ replicate (length (now (line .entry)) - from) 0 ⌝ }
+    ensures { λ r. ⌜ now (line .exit)
+        ≡ take from (now (line .entry)) ++ replicate (length (now (line .entry)) - from) 0 ⌝ }
 {
     let mut i = from;
     while i < line.len() {
@@ -185,8 +189,8 @@ fn blank(line: &mut [u8], from: usize)
 }
 
 // A chunk of the input, of any length: stores the answers to the lines that end in it, from the beginning of out, and
-// keeps what has come of the next line, its first 1,025 bytes, with zeros behind it. Asks for a line of 1,025 bytes
-// with at most as many in use, and for room: five bytes for each of the chunk, and KEPT_MOST.
+// keeps what has come of the next line, its first KEPT_MOST bytes, with zeros behind it. Asks for a line of that
+// many bytes with at most as many in use, and for room: five bytes for each of the chunk, and KEPT_MOST.
 pub fn feed(chunk: &[u8], line: &mut [u8], n: usize, out: &mut [u8]) -> Fed
     requires { ⌜ n ≤ keptMost ⌝ }
     requires { ⌜ length (now line) ≡ keptMost ⌝ }
@@ -206,7 +210,8 @@ pub fn feed(chunk: &[u8], line: &mut [u8], n: usize, out: &mut [u8]) -> Fed
 pub fn finish(line: &[u8], n: usize, out: &mut [u8]) -> usize
     requires { ⌜ n ≤ length (now line) ⌝ }
     requires { ⌜ n + 5 ≤ length (now out) ⌝ }
-    ensures { λ r. ⌜ Stored (now (out .entry)) 0 (answers answer (last (take n (now (line .entry))))) (now (out .exit)) r ⌝ }
+    ensures { λ r. ⌜ Stored (now (out .entry)) 0
+        (answers answer (last (take n (now (line .entry))))) (now (out .exit)) r ⌝ }
     ensures { λ r. ⌜ r ≤ n + 5 ⌝ }
 {
     if n == 0 {

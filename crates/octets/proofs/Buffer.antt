@@ -12,7 +12,8 @@ use Rattle.octets.specs.Little.{split}
 use Rattle.octets.specs.Buffer.{laid}
 
 -- one turn of a store: the lowest byte at p, the rest from the next place on
-pub store-next : (l : List ℕ) (p q j k v : ℕ) → q ≡ p + 1 → k ≡ j + 1 → laid (set l p (v % 256)) q (split j (v / 256)) ≡ laid l p (split k v)
+pub store-next : (l : List ℕ) (p q j k v : ℕ) → q ≡ p + 1 → k ≡ j + 1 →
+    laid (set l p (v % 256)) q (split j (v / 256)) ≡ laid l p (split k v)
 unfolding split laid
 store-next l p q j k v e f = rw (e, f, add-one p, add-one j)
 
@@ -47,7 +48,8 @@ pub laid-join : (l : List ℕ) (at next n : ℕ) (a b : List ℕ) → length a �
 laid-join l at next n a b e f = rw (f, sym e) (laid-append l at a b)
 
 -- and so are the buffers that two calls left
-pub laid-two : (l : List ℕ) (at n next : ℕ) (a b : List ℕ) {m r : List ℕ} → length a ≡ n → next ≡ at + n → m ≡ laid l at a → r ≡ laid m next b →
+pub laid-two : (l : List ℕ) (at n next : ℕ) (a b : List ℕ) {m r : List ℕ} → length a ≡ n → next ≡ at + n → m ≡ laid l at a →
+    r ≡ laid m next b →
     r ≡ laid l at (a ++ b)
 laid-two l at n next a b long behind one two = rw (two, one) (laid-join l at next n a b long behind)
 

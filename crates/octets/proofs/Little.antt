@@ -104,7 +104,8 @@ pub number-again : (s : List ℕ) (at n : ℕ) → Bytes s → at + n ≤ length
 unfolding number
 number-again s at n b h =
     let k : length (take n (drop at s)) ≡ n = length-take-le n (drop at s) (rw length-drop (omega arith)) in
-    ap (λ (j : ℕ). split j (join (take n (drop at s)))) (sym k) ∙ split-join (take n (drop at s)) (bytes-take n (drop at s) (bytes-drop at s b))
+    ap (λ (j : ℕ). split j (join (take n (drop at s)))) (sym k)
+    ∙ split-join (take n (drop at s)) (bytes-take n (drop at s) (bytes-drop at s b))
 
 -- not altered by what follows
 pub number-more : (s t : List ℕ) (at n : ℕ) → at + n ≤ length s → number (s ++ t) at n ≡ number s at n

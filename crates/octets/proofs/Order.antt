@@ -21,7 +21,8 @@ abbrev pub Fail : {A : Type 0} → List (Bool × A) → Type 0
 Fail [] = Unit
 Fail (test ∷ rest) = (test .0 ≡ false) × Fail rest
 
-pub none-holds : {A : Type 0} (accepts : A → Bool) (tests : List (Bool × A)) (other : A) → Refusing accepts tests → accepts (first tests other) ≡ true →
+pub none-holds : {A : Type 0} (accepts : A → Bool) (tests : List (Bool × A)) (other : A) → Refusing accepts tests →
+    accepts (first tests other) ≡ true →
     Fail tests × (first tests other ≡ other)
 none-holds accepts [] other r e = (tt, refl)
 none-holds accepts ((true, a) ∷ rest) other r e = absurd (true≢false (sym e ∙ r .0))

@@ -34,7 +34,8 @@ module _ (l : List ℕ) (at a b : ℕ) where
 pub join : {l m o a b : List ℕ} {at next r : ℕ} → Stored l at a m next → Stored m next b o r → Stored l at (a ++ b) o r
 join {l} {m} {o} {a} {b} {at} {next} {r} s t = record {
   bytes = t .bytes ∙ ap (λ (x : List ℕ). laid x next b) (s .bytes) ∙ laid-join l at next (length a) a b refl (s .next);
-  next = t .next ∙ ap (λ (n : ℕ). n + length b) (s .next) ∙ add-assoc at (length a) (length b) ∙ ap (λ (n : ℕ). at + n) (sym (length-append a b));
+  next = t .next ∙ ap (λ (n : ℕ). n + length b) (s .next) ∙ add-assoc at (length a) (length b)
+      ∙ ap (λ (n : ℕ). at + n) (sym (length-append a b));
 }
 
 -- the same bytes by another name

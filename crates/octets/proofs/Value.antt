@@ -1,5 +1,5 @@
--- The three ends of every writer of values, from what its own tests showed: too large, no room, or stored. A writer tests for refusal 8, then
--- for its room, and stores what is left.
+-- The three ends of every writer of values, from what its own tests showed: too large, no room, or stored. A writer tests for refusal 8,
+-- then for its room, and stores what is left.
 -- Assumes nothing.
 use Prim.Native.Nat.{ℕ, _≤_, _<_}
 use mathlib.Core.Bool.{Bool, true, false}

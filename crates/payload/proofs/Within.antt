@@ -11,10 +11,8 @@ use lib.Seq.{take-all}
 use Rattle.octets.proofs.Cases.{cases, holds?}
 use Rattle.header.specs.declared.HeaderRead.{HeaderRead}
 use Rattle.header.specs.declared.HeaderRead.the-variants.{Read, Refused}
-use Rattle.header.specs.declared.HeaderRefusal.{HeaderRefusal}
-use Rattle.header.specs.declared.HeaderRefusal.the-variants as Refusal
-use Rattle.header.specs.Read.{readHeader, readNumber}
-use Rattle.header.proofs.Bounds.{length-bounds}
+use Rattle.header.specs.Read.{readHeader}
+use Rattle.header.proofs.Bounds.{length-bounds, refusal-some}
 use Rattle.beacon.specs.Beacon.{readBeacon}
 use Rattle.beacon_facts.proofs.Beacon.{beacon-read, all-found}
 use Rattle.payload.specs.Frame.{opens, behindBeacon, frameAfter, readFrame}
@@ -25,13 +23,6 @@ beacon-within s at e =
     let q = beacon-read s at e in
     rw (q .0) (all-found s at (q .1))
 
-refused-number : (r : HeaderRefusal) → readNumber r ≡ 0 → ⊥
-refused-number Refusal.Ended e = omega arith
-refused-number Refusal.Version e = omega arith
-refused-number Refusal.FrameType e = omega arith
-refused-number Refusal.AddressMode e = omega arith
-refused-number Refusal.Compression e = omega arith
-
 behind-within : (s : List ℕ) (at : ℕ) → at ≤ length s → behindBeacon at (readBeacon s at .outcome) .number ≡ 0 →
     behindBeacon at (readBeacon s at .outcome) .length ≤ length s
 behind-within s at h e =
@@ -41,7 +32,7 @@ behind-within s at h e =
 
 after-within : (s : List ℕ) (r : HeaderRead) → readHeader s ≡ r → frameAfter s r .outcome .number ≡ 0 →
     frameAfter s r .outcome .length ≤ length s
-after-within s (Refused r) e f = absurd (refused-number r f)
+after-within s (Refused r) e f = absurd (refusal-some r f)
 after-within s (Read h n) e f =
     let within = length-bounds s h n e .2 in
     cases (holds? (opens h))

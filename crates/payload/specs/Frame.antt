@@ -3,13 +3,16 @@
 -- refusal, of header or beacon, it returns that number and the slice's empty beginning. A secured beacon's content is
 -- not read."
 use Rattle.octets.specs.Words.{ℕ, _+_, Bool, false, cond, List, [], eqb, drop}
-use Rattle.octets.specs.{declared.Outcome.Outcome, Outcome.accepted, Outcome.refused}
-use Rattle.frame_control.specs.{Types.typeBits}
-use Rattle.header.specs.{declared.Header.Header, declared.HeaderRead.HeaderRead, Record.secured, Read.readHeader}
-use Rattle.header.specs.{Read.readNumber}
+use Rattle.octets.specs.declared.{Outcome.Outcome}
+use Rattle.octets.specs.Outcome.{accepted, refused}
+use Rattle.frame_control.specs.Types.{typeBits}
+use Rattle.header.specs.declared.{Header.Header, HeaderRead.HeaderRead}
+use Rattle.header.specs.Record.{secured}
+use Rattle.header.specs.Read.{readHeader, readNumber}
 use Rattle.header.specs.declared.HeaderRead.the-variants.{Read, Refused}
-use Rattle.beacon.specs.{declared.BeaconRead.BeaconRead, Beacon.emptyBeacon, Beacon.readBeacon}
-use Rattle.payload.specs.{declared.FrameRead.FrameRead}
+use Rattle.beacon.specs.declared.{BeaconRead.BeaconRead}
+use Rattle.beacon.specs.Beacon.{emptyBeacon, readBeacon}
+use Rattle.payload.specs.declared.{FrameRead.FrameRead}
 
 -- an unsecured frame of type 0
 abbrev pub opens : Header → Bool

@@ -1,9 +1,9 @@
 -- Lists of short and of extended addresses side by side (IEEE 802.15.4-2011, 5.2.2.1.7), two and eight bytes each.
 use Rattle.octets.specs.Words.{ℕ, _+_, _*_, List}
-use Rattle.octets.specs.{Little.number, Little.split}
-use Rattle.identifiers.specs.{declared.ShortAddress.ShortAddress, declared.ExtendedAddress.ExtendedAddress}
+use Rattle.octets.specs.Little.{number, split}
+use Rattle.identifiers.specs.declared.{ShortAddress.ShortAddress, ExtendedAddress.ExtendedAddress}
 use Rattle.identifiers.specs.{ShortAddress.short, ExtendedAddress.extended}
-use Rattle.seven_places.specs.{Seven.seven}
+use Rattle.seven_places.specs.Seven.{seven}
 
 -- address k of the list at a place
 unfoldable pub shortAt : List ℕ → ℕ → ℕ → ShortAddress

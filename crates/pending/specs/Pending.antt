@@ -1,12 +1,13 @@
 -- Pending addresses, document 01, "Beacon layout" (IEEE 802.15.4-2011, 5.2.2.1.6 and 5.2.2.1.7). Header: short count
 -- bits 0-2, extended count 4-6; short addresses first.
 use Rattle.octets.specs.Words.{ℕ, _+_, _*_, _%_, Bool, _||_, List, [], _∷_, _++_, flatMap, ltb, take, replicate}
-use Rattle.octets.specs.{declared.ValueWritten.ValueWritten, Bits.bits, Little.number, Little.split, Order.first}
-use Rattle.octets.specs.{Outcome.accepted, Outcome.refused, Part.ends, Value.writeValue}
-use Rattle.identifiers.specs.{declared.ShortAddress.ShortAddress, declared.ExtendedAddress.ExtendedAddress}
-use Rattle.pending.specs.{declared.PendingAddress.PendingAddress, declared.PendingRead.PendingRead}
-use Rattle.pending.specs.{Addresses.emptyShort, Addresses.emptyExtended, Addresses.shortsIn}
-use Rattle.pending.specs.{Addresses.extendedsIn, Addresses.shortBytes, Addresses.extendedBytes}
+use Rattle.octets.specs.declared.{ValueWritten.ValueWritten}
+use Rattle.octets.specs.{Bits.bits, Order.first, Part.ends, Value.writeValue}
+use Rattle.octets.specs.Little.{number, split}
+use Rattle.octets.specs.Outcome.{accepted, refused}
+use Rattle.identifiers.specs.declared.{ShortAddress.ShortAddress, ExtendedAddress.ExtendedAddress}
+use Rattle.pending.specs.declared.{PendingAddress.PendingAddress, PendingRead.PendingRead}
+use Rattle.pending.specs.Addresses.{emptyShort, emptyExtended, shortsIn, extendedsIn, shortBytes, extendedBytes}
 
 -- how many bytes the addresses take behind the header
 abbrev pub addressesLength : ℕ → ℕ → ℕ

@@ -18,7 +18,7 @@ use octets::u16_at;
 use octets::u64_at;
 
 // The n short addresses at a place, and broadcast ones behind them. Asks that they are there and at most seven.
-pub fn shorts_at(s: &[u8], at: usize, n: usize) -> [ShortAddress; 7]
+fn shorts_at(s: &[u8], at: usize, n: usize) -> [ShortAddress; 7]
     requires { ⌜ n ≤ 7 ⌝ }
     requires { ⌜ at + 2 * n ≤ length (now s) ⌝ }
     ensures { λ r. ⌜ r ≡ shortsIn (now (s .entry)) at n ⌝ }
@@ -33,7 +33,7 @@ pub fn shorts_at(s: &[u8], at: usize, n: usize) -> [ShortAddress; 7]
 }
 
 // The n extended addresses at a place, and broadcast ones behind them. Asks that they are there and at most seven.
-pub fn extendeds_at(s: &[u8], at: usize, n: usize) -> [ExtendedAddress; 7]
+fn extendeds_at(s: &[u8], at: usize, n: usize) -> [ExtendedAddress; 7]
     requires { ⌜ n ≤ 7 ⌝ }
     requires { ⌜ at + 8 * n ≤ length (now s) ⌝ }
     ensures { λ r. ⌜ r ≡ extendedsIn (now (s .entry)) at n ⌝ }

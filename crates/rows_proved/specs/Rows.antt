@@ -1,32 +1,37 @@
 -- Document 01, "Frames to try", rows P1 to P13: what reading a header, a beacon or a GTS field answers, its record, its
 -- lengths, and what writing it again gives.
 use Rattle.octets.specs.Words.{ℕ, Bool, true, false, cond, List, [], _∷_, eqb, replicate}
-use Rattle.octets.specs.{declared.Outcome.Outcome, Outcome.accepted, Outcome.refused, Value.valueOutcome}
-use Rattle.key_identifier.specs.{declared.OptionalKeySource.OptionalKeySource, Key.keyOf}
-use Rattle.frame_control.specs.{declared.FrameType.FrameType}
+use Rattle.octets.specs.declared.{Outcome.Outcome}
+use Rattle.octets.specs.Outcome.{accepted, refused}
+use Rattle.octets.specs.Value.{valueOutcome}
+use Rattle.key_identifier.specs.declared.{OptionalKeySource.OptionalKeySource}
+use Rattle.key_identifier.specs.Key.{keyOf}
+use Rattle.frame_control.specs.declared.{FrameType.FrameType}
 use Rattle.frame_control.specs.declared.FrameVersion.the-variants.{Ieee802154_2003}
 use Rattle.identifiers.specs.{PanId.pan, ShortAddress.short}
-use Rattle.address.specs.{declared.OptionalAddress.OptionalAddress}
+use Rattle.address.specs.declared.{OptionalAddress.OptionalAddress}
 use Rattle.address.specs.declared.Address.the-variants.{Short}
-use Rattle.security_control.specs.{Control.controlOf}
+use Rattle.security_control.specs.Control.{controlOf}
 use Rattle.security_control.specs.declared.KeyIdentifierMode.the-variants.{KeyIndex}
-use Rattle.security.specs.{declared.OptionalSecurityHeader.OptionalSecurityHeader, Optional.counterRead}
-use Rattle.security.specs.{Security.securityOf}
-use Rattle.header.specs.{declared.Header.Header, declared.HeaderRead.HeaderRead, Record.octetSize, Read.readHeader}
-use Rattle.header.specs.{Read.readNumber, Write.writeHeader, Write.writtenOutcome}
+use Rattle.security.specs.declared.{OptionalSecurityHeader.OptionalSecurityHeader}
+use Rattle.security.specs.{Optional.counterRead, Security.securityOf}
+use Rattle.header.specs.declared.{Header.Header, HeaderRead.HeaderRead}
+use Rattle.header.specs.Record.{octetSize}
+use Rattle.header.specs.Read.{readHeader, readNumber}
+use Rattle.header.specs.Write.{writeHeader, writtenOutcome}
 use Rattle.header.specs.declared.HeaderRead.the-variants.{Read, Refused}
-use Rattle.header_facts.specs.{RoundTrip.rewritten}
-use Rattle.superframe.specs.{declared.SuperframeSpecification.SuperframeSpecification}
+use Rattle.header_facts.specs.RoundTrip.{rewritten}
+use Rattle.superframe.specs.declared.{SuperframeSpecification.SuperframeSpecification}
 use Rattle.superframe.specs.declared.BeaconOrder.the-variants.{BeaconOrder}
 use Rattle.superframe.specs.declared.SuperframeOrder.the-variants.{SuperframeOrder}
-use Rattle.time_slots.specs.{declared.GuaranteedTimeSlotInformation.GuaranteedTimeSlotInformation}
-use Rattle.time_slots.specs.{declared.TimeSlotsRead.TimeSlotsRead, Descriptor.descriptorOf, Descriptor.emptyDescriptor}
-use Rattle.time_slots.specs.{TimeSlots.timeSlotsOf, TimeSlots.readTimeSlots, TimeSlots.timeSlotsBytes}
-use Rattle.time_slots.specs.{TimeSlots.writeTimeSlots}
+use Rattle.time_slots.specs.declared.{GuaranteedTimeSlotInformation.GuaranteedTimeSlotInformation}
+use Rattle.time_slots.specs.declared.{TimeSlotsRead.TimeSlotsRead}
+use Rattle.time_slots.specs.Descriptor.{descriptorOf, emptyDescriptor}
+use Rattle.time_slots.specs.TimeSlots.{timeSlotsOf, readTimeSlots, timeSlotsBytes, writeTimeSlots}
 use Rattle.time_slots.specs.declared.Direction.the-variants.{Transmit}
-use Rattle.pending.specs.{Pending.emptyPending}
-use Rattle.beacon.specs.{declared.Beacon.Beacon, declared.BeaconRead.BeaconRead, Beacon.beaconOf, Beacon.readBeacon}
-use Rattle.beacon.specs.{Beacon.beaconBytes, Beacon.writeBeacon}
+use Rattle.pending.specs.Pending.{emptyPending}
+use Rattle.beacon.specs.declared.{Beacon.Beacon, BeaconRead.BeaconRead}
+use Rattle.beacon.specs.Beacon.{beaconOf, readBeacon, beaconBytes, writeBeacon}
 
 -- what is asked for: the header, the beacon or the GTS field at the beginning of bytes
 pub data Asked : Type 0 where

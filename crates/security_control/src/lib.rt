@@ -20,7 +20,7 @@ pub enum KeyIdentifierMode {
 
 impl KeyIdentifierMode {
     // The mode of two bits; a larger number, which two bits cannot hold, counts as 3.
-    pub fn from_bits(bits: u8) -> KeyIdentifierMode
+    fn from_bits(bits: u8) -> KeyIdentifierMode
         ensures { λ r. ⌜ r ≡ keyModeOf bits ⌝ }
     {
         match bits {

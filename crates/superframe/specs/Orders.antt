@@ -1,6 +1,6 @@
 -- Beacon order and superframe order: document 01, "15 means OnDemand and Inactive" (IEEE 802.15.4-2011, 5.2.2.1.2).
 use Rattle.octets.specs.Words.{ℕ, Bool, false, cond, ltb}
-use Rattle.superframe.specs.{declared.BeaconOrder.BeaconOrder, declared.SuperframeOrder.SuperframeOrder}
+use Rattle.superframe.specs.declared.{BeaconOrder.BeaconOrder, SuperframeOrder.SuperframeOrder}
 
 -- the order of a number: 0 to 14 are themselves
 abbrev pub beaconOrderOf : ℕ → BeaconOrder

@@ -2,12 +2,15 @@
 -- half), superframe order (high half). Byte 1: final slot bits 0-3, battery extension 4, bit 5 not read, coordinator 6,
 -- association permit 7.
 use Rattle.octets.specs.Words.{ℕ, _+_, _*_, _%_, Bool, false, _||_, List, [], _∷_, _++_, ltb}
-use Rattle.octets.specs.{declared.ValueWritten.ValueWritten, Bits.bits, Bits.bit, Bits.bitOf, Little.number}
-use Rattle.octets.specs.{Little.split, Order.first, Outcome.accepted, Outcome.refused, Part.ends, Value.writeValue}
-use Rattle.superframe.specs.{declared.SuperframeSpecification.SuperframeSpecification}
-use Rattle.superframe.specs.{declared.SuperframeRead.SuperframeRead, Orders.beaconOrderOf, Orders.beaconOrderBits}
-use Rattle.superframe.specs.{Orders.beaconOrderTooLarge, Orders.superframeOrderOf, Orders.superframeOrderBits}
-use Rattle.superframe.specs.{Orders.superframeOrderTooLarge}
+use Rattle.octets.specs.declared.{ValueWritten.ValueWritten}
+use Rattle.octets.specs.Bits.{bits, bit, bitOf}
+use Rattle.octets.specs.Little.{number, split}
+use Rattle.octets.specs.{Order.first, Part.ends, Value.writeValue}
+use Rattle.octets.specs.Outcome.{accepted, refused}
+use Rattle.superframe.specs.declared.{SuperframeSpecification.SuperframeSpecification}
+use Rattle.superframe.specs.declared.{SuperframeRead.SuperframeRead}
+use Rattle.superframe.specs.Orders.{beaconOrderOf, beaconOrderBits, beaconOrderTooLarge, superframeOrderOf}
+use Rattle.superframe.specs.Orders.{superframeOrderBits, superframeOrderTooLarge}
 use Rattle.superframe.specs.declared.BeaconOrder.the-variants.{OnDemand}
 use Rattle.superframe.specs.declared.SuperframeOrder.the-variants.{Inactive}
 

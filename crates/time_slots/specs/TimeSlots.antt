@@ -2,14 +2,17 @@
 -- permit 7. For n > 0 a direction byte, then n descriptors. Bit k of the direction byte belongs to descriptor k.
 use Rattle.octets.specs.Words.{ℕ, zero, suc, _+_, _*_, _%_, Bool, false, _||_, List, [], _∷_, _++_, flatMap, ltb, take}
 use Rattle.octets.specs.Words.{replicate}
-use Rattle.octets.specs.{declared.ValueWritten.ValueWritten, Bits.bits, Bits.bit, Bits.bitOf, Little.number}
-use Rattle.octets.specs.{Little.split, Order.first, Outcome.accepted, Outcome.refused, Part.ends, Value.writeValue}
-use Rattle.seven_places.specs.{Seven.seven, Seven.some}
-use Rattle.time_slots.specs.{declared.GuaranteedTimeSlotDescriptor.GuaranteedTimeSlotDescriptor}
-use Rattle.time_slots.specs.{declared.GuaranteedTimeSlotInformation.GuaranteedTimeSlotInformation}
-use Rattle.time_slots.specs.{declared.TimeSlotsRead.TimeSlotsRead, Direction.directionBit, Direction.directionOf}
-use Rattle.time_slots.specs.{Descriptor.emptyDescriptor, Descriptor.descriptorIn, Descriptor.descriptorBytes}
-use Rattle.time_slots.specs.{Descriptor.descriptorTooLarge}
+use Rattle.octets.specs.declared.{ValueWritten.ValueWritten}
+use Rattle.octets.specs.Bits.{bits, bit, bitOf}
+use Rattle.octets.specs.Little.{number, split}
+use Rattle.octets.specs.{Order.first, Part.ends, Value.writeValue}
+use Rattle.octets.specs.Outcome.{accepted, refused}
+use Rattle.seven_places.specs.Seven.{seven, some}
+use Rattle.time_slots.specs.declared.{GuaranteedTimeSlotDescriptor.GuaranteedTimeSlotDescriptor}
+use Rattle.time_slots.specs.declared.{GuaranteedTimeSlotInformation.GuaranteedTimeSlotInformation}
+use Rattle.time_slots.specs.declared.{TimeSlotsRead.TimeSlotsRead}
+use Rattle.time_slots.specs.Direction.{directionBit, directionOf}
+use Rattle.time_slots.specs.Descriptor.{emptyDescriptor, descriptorIn, descriptorBytes, descriptorTooLarge}
 
 -- how many bytes n slots take behind the header
 abbrev pub slotsLength : ℕ → ℕ

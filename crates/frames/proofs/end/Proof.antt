@@ -10,5 +10,6 @@ use Rattle.frames.proofs.end.Tie as tie
 pub end-spec : {M : Type 1} → statement M
 end-spec =
     tie.close
-    (tie.spec (λ c κs. search needs) (λ c. search needs) (λ c. sym (length-take-le _ _ (omega arith))) (λ c κs. search needs) (λ c. search needs)
+    (tie.spec (λ c κs. search needs) (λ c. search needs) (λ c. sym (length-take-le _ _ (omega arith))) (λ c κs. search needs)
+    (λ c. search needs)
     (λ c. search needs))

@@ -107,7 +107,8 @@ all c =
 pub decode-spec : {M : Type 1} → statement M
 decode-spec =
     tie.close
-    (tie.spec Inv-loop μ-loop (λ c κs. search needs) loop-holds (λ c. search needs) (λ c. search needs) (λ c. search needs) (λ c. omega (arith, high-byte c))
+    (tie.spec Inv-loop μ-loop (λ c κs. search needs) loop-holds (λ c. search needs) (λ c. search needs) (λ c. search needs)
+    (λ c. omega (arith, high-byte c))
     (λ c. omega (arith, high-byte c)) high-byte (λ c. search needs) (λ c. search needs) (λ c. search needs) (λ c. search needs)
     (λ c. omega (arith, low-byte c)) (λ c. omega (arith, low-byte c)) low-byte (λ c. omega (arith, small c .0))
     (λ c. omega (arith, small c .0, small c .1)) (λ c. search needs) other (λ c. search needs) (λ c. search needs)

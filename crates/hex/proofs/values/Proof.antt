@@ -47,6 +47,7 @@ loop-again c =
 pub values-spec : {M : Type 1} → statement M
 values-spec =
     tie.close
-    (tie.spec Inv-loop μ-loop (λ c. (omega arith, (length-replicate {A = ℕ} 256 0, none _))) (λ c. search needs) (λ c κs. search needs) (λ c. search needs)
+    (tie.spec Inv-loop μ-loop (λ c. (omega arith, (length-replicate {A = ℕ} 256 0, none _))) (λ c. search needs) (λ c κs. search needs)
+    (λ c. search needs)
     (λ c. search needs) (λ c. search needs) (λ c. search needs) loop-again
     (λ c. let l = c .before .loop in all (l .table) (l .b) (c .loop-test .left) (l .inv .1 .1)))

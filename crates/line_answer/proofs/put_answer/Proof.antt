@@ -42,7 +42,8 @@ bytes : (c : tie.After-decode) →
 bytes c = ap (take (c .decode .result)) (c .decode .ensures .1) ∙ front _ _ (c .decode .result) (sym (c .decode .ensures .0)) (few c)
 
 -- the label is the front of the line
-label : (c : tie.Else2) → length (take (c .before .find .result) (c .before .before .before .before .before .args .line .now)) ≡ c .before .find .result
+label : (c : tie.Else2) →
+    length (take (c .before .find .result) (c .before .before .before .before .before .args .line .now)) ≡ c .before .find .result
 label c = length-take-le _ _ (le-of-lt (c .if2 .left))
 
 part : tie.Need-returns-3
@@ -84,5 +85,7 @@ put-answer-spec =
     tie.close
     (tie.spec (λ c κs. search needs) (λ c. search needs) long (λ c κs. search needs) (λ c κs. search needs) (λ c. search needs) tabless
     (λ c. search needs) (λ c. search needs) (λ c κs. search needs) (λ c. search needs) (λ c. omega (arith, few (c .before)))
-    (λ c. omega (arith, few (c .before))) (λ c κs. search needs) (λ c. search needs) part (λ c. sym (label (c .before .before .before .before .before)))
-    (λ c. search needs) (λ c. let d = c .before .before .before .before in d .decode .ensures .0 ∙ sym (ap length (bytes d))) room (λ c. search needs) good)
+    (λ c. omega (arith, few (c .before))) (λ c κs. search needs) (λ c. search needs) part
+    (λ c. sym (label (c .before .before .before .before .before)))
+    (λ c. search needs) (λ c. let d = c .before .before .before .before in d .decode .ensures .0 ∙ sym (ap length (bytes d))) room
+    (λ c. search needs) good)

@@ -23,7 +23,8 @@ copied : (c : tie.After-copy) →
     Stored (a .out .now) (a .at) (a .label .now) (c .copy .last .1 .0) (c .copy .result)
 copied c =
     let a = c .before .before .before .before .before .before .before .args in
-    let h : length (a .label .now) ≤ length (a .out .now) - a .at = omega (arith, c .before .before .before .before .before .before .before .pre) in
+    let h : length (a .label .now) ≤ length (a .out .now) - a .at =
+    omega (arith, c .before .before .before .before .before .before .before .pre) in
     same (take-all (length (a .out .now) - a .at) (a .label .now) h) (record { bytes = c .copy .ensures .1; next = c .copy .ensures .0 })
 
 small : tie.Need-put-told-requires

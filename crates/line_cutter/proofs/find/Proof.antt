@@ -41,4 +41,6 @@ none c =
     omega (arith, ap length (before-end (a .a) (a .b) (a .s .now) (l .loop .i) (c .loop-test .left)))
 
 pub find-spec : {M : Type 1} → statement M
-find-spec = tie.close (tie.spec Inv-loop μ-loop (λ c. refl) (λ c. search needs) first second (λ c. search needs) (λ c. search needs) loop-again none)
+find-spec =
+    tie.close
+    (tie.spec Inv-loop μ-loop (λ c. refl) (λ c. search needs) first second (λ c. search needs) (λ c. search needs) loop-again none)

@@ -26,7 +26,8 @@ module _ (l : List ℕ) where
   start : (from : ℕ) → take from l ≡ take from l ++ replicate (from - from) 0
   start from = let e : from - from ≡ 0 = omega arith in rw e (sym (append-nil (take from l)))
 
-  next : (m : List ℕ) (from i k : ℕ) → suc i ≡ k → i + 1 - from ≡ i - from + 1 → suc i ≤ length m → take i m ≡ take from l ++ replicate (i - from) 0 →
+  next : (m : List ℕ) (from i k : ℕ) → suc i ≡ k → i + 1 - from ≡ i - from + 1 → suc i ≤ length m →
+      take i m ≡ take from l ++ replicate (i - from) 0 →
       take k (set m i 0) ≡ take from l ++ replicate (i + 1 - from) 0
   next m from i k e f h s =
       rw (sym e) (take-suc-set m i 0 h)
@@ -55,4 +56,6 @@ returns c =
     sym (take-all (l .i) (l .line) (c .loop-test .left)) ∙ l .inv .3 ∙ ap (λ (n : ℕ). take (a .from) (a .line .now) ++ replicate n 0) e
 
 pub blank-spec : {M : Type 1} → statement M
-blank-spec = tie.close (tie.spec Inv-loop μ-loop loop-holds (λ c. search needs) (λ c. search needs) (λ c. search needs) loop-again (λ c. search needs) returns)
+blank-spec =
+    tie.close
+    (tie.spec Inv-loop μ-loop loop-holds (λ c. search needs) (λ c. search needs) (λ c. search needs) loop-again (λ c. search needs) returns)

@@ -64,12 +64,15 @@ returns c =
     let s = c .before .before .before .before .before .before in
     let a = s .args in
     let e = drop-of-length-le (a .chunk .now) (c .loop-test .left) in
-    let h : length (take (l .held) (l .line)) ≤ keptMost = omega (arith, length-take-le (l .held) (l .line) (omega (arith, l .inv .1, l .inv .2, s .pre .1 .0)), l .inv .1) in (
-      fed-done answer (take (l .held) (l .line)) (l .out) (l .used) h ∙ ap (λ (t : List ℕ). fedTo answer (take (l .held) (l .line)) t (l .out) (l .used)) (sym e) ∙ l .inv .6,
+    let h : length (take (l .held) (l .line)) ≤ keptMost =
+    omega (arith, length-take-le (l .held) (l .line) (omega (arith, l .inv .1, l .inv .2, s .pre .1 .0)), l .inv .1) in (
+      fed-done answer (take (l .held) (l .line)) (l .out) (l .used) h
+          ∙ ap (λ (t : List ℕ). fedTo answer (take (l .held) (l .line)) t (l .out) (l .used)) (sym e) ∙ l .inv .6,
       (l .inv .1, omega (arith, l .inv .5, l .inv .0, s .pre .1 .1)),
     )
 
 pub feed-lines-spec : {M : Type 1} → statement M
 feed-lines-spec =
     tie.close
-    (tie.spec Inv-loop μ-loop (λ c κs. search needs) loop-holds (λ c. search needs) room loop-less loop-again (λ c. c .before .loop .inv .2) (λ c. c .before .loop .inv .3) returns)
+    (tie.spec Inv-loop μ-loop (λ c κs. search needs) loop-holds (λ c. search needs) room loop-less loop-again (λ c. c .before .loop .inv .2)
+    (λ c. c .before .loop .inv .3) returns)

@@ -12,7 +12,8 @@ use Rattle.lines.proofs.finish.Statement.{statement}
 use Rattle.lines.proofs.finish.Tie as tie
 
 -- the line is as long as it is said to be
-long : (c : tie.Else1) → length (take (c .before .before .before .args .n) (c .before .before .before .args .line .now)) ≡ c .before .before .before .args .n
+long : (c : tie.Else1) →
+    length (take (c .before .before .before .args .n) (c .before .before .before .args .line .now)) ≡ c .before .before .before .args .n
 long c = length-take-le _ _ (c .before .before .before .pre .0)
 
 nothing : tie.Need-returns

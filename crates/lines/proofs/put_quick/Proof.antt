@@ -20,10 +20,12 @@ use Rattle.lines.proofs.put_quick.Statement.{statement}
 use Rattle.lines.proofs.put_quick.Tie as tie
 
 -- a tab ends the label
-tab-there : (c : tie.Else1) → isAt (c .before .before .before .before .before .before .args .chunk .now) (c .before .before .find .result) 9 ≡ true
+tab-there : (c : tie.Else1) →
+    isAt (c .before .before .before .before .before .before .args .chunk .now) (c .before .before .find .result) 9 ≡ true
 tab-there c = sym (c .before .is-at .ensures) ∙ not-false _ (c .if1 .left)
 
-tab-within : (c : tie.Else1) → c .before .before .find .result < length (c .before .before .before .before .before .before .args .chunk .now)
+tab-within : (c : tie.Else1) →
+    c .before .before .find .result < length (c .before .before .before .before .before .before .args .chunk .now)
 tab-within c = there (c .before .before .before .before .before .before .args .chunk .now) (c .before .before .find .result) 9 (tab-there c) .0
 
 -- the bytes that are decoded behind it stand at the beginning of the frame
@@ -47,7 +49,8 @@ bytes c =
     let f = c .before .before .before .before in
     let s = f .before .before .before .before in
     ap (take (c .decode .result))
-    (c .decode .ensures .1 ∙ ap (λ (k : ℕ). laid (s .args .frame .now) 0 (decoded (s .args .chunk .now) (f .find .result + 1) k)) (s .pre .1 .0))
+    (c .decode .ensures .1
+    ∙ ap (λ (k : ℕ). laid (s .args .frame .now) 0 (decoded (s .args .chunk .now) (f .find .result + 1) k)) (s .pre .1 .0))
     ∙ front (s .args .frame .now) _ (c .decode .result) (sym (count c)) (omega (arith, few c, s .pre .1 .0))
 
 -- a line feed ends the digits

@@ -11,4 +11,7 @@ returns c =
     rw (number-join (a .s .now) (a .at) 1 1 (search needs), number-one (a .s .now) (a .at), number-one, c .before .before .wide .ensures .0, c .wide2 .ensures .0)
 
 pub u16-at-spec : {M : Type 1} → statement M
-u16-at-spec = tie.close (tie.spec (λ c. search needs) (λ c κs. search needs) (λ c. search needs) (λ c. search needs) (λ c κs. search needs) (λ c. search needs) (λ c. search needs) returns)
+u16-at-spec =
+    tie.close
+    (tie.spec (λ c. search needs) (λ c κs. search needs) (λ c. search needs) (λ c. search needs) (λ c κs. search needs) (λ c. search needs)
+    (λ c. search needs) returns)

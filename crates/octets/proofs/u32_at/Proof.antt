@@ -11,4 +11,7 @@ returns c =
     rw (number-join (a .s .now) (a .at) 2 2 (search needs), c .before .u16-at .ensures, c .u16-at2 .ensures)
 
 pub u32-at-spec : {M : Type 1} → statement M
-u32-at-spec = tie.close (tie.spec (λ c κs. search needs) (λ c. search needs) (λ c. search needs) (λ c κs. search needs) (λ c. search needs) (λ c. search needs) (λ c. search needs) returns)
+u32-at-spec =
+    tie.close
+    (tie.spec (λ c κs. search needs) (λ c. search needs) (λ c. search needs) (λ c κs. search needs) (λ c. search needs) (λ c. search needs)
+    (λ c. search needs) returns)

@@ -18,4 +18,5 @@ written c =
 pub write-number-spec : {M : Type 1} → statement M
 write-number-spec =
     tie.close
-    (tie.spec (λ c κs. search needs) (λ c. search needs) full (λ c κs. omega (arith, c .before .before .left .ensures)) (λ c. search needs) written)
+    (tie.spec (λ c κs. search needs) (λ c. search needs) full (λ c κs. omega (arith, c .before .before .left .ensures))
+    (λ c. search needs) written)

@@ -7,7 +7,8 @@ use Rattle.octets.proofs.ValueWritten.outcome.Tie as tie
 pub outcome-spec : {M : Type 1} → statement M
 outcome-spec =
     tie.close
-    (tie.spec (λ c. search needs) (λ c κs. search needs) (λ c. search needs) (λ c κs. search needs) (λ c. search needs) (λ c κs. search needs)
+    (tie.spec (λ c. search needs) (λ c κs. search needs) (λ c. search needs) (λ c κs. search needs) (λ c. search needs)
+    (λ c κs. search needs)
     (λ c. rw (c .before .before .self .given .1) (c .accepted .ensures))
     (λ c. rw (c .before .enum-told .given .1) (c .refused .ensures))
     (λ c. rw (c .before .enum-told2 .given .1) (c .refused2 .ensures)))
