@@ -12,7 +12,7 @@ use lib.ListN.{length, take, drop, length-drop}
 use lib.Seq.{length-take-le, take-all, drop-append-add}
 use Rattle.octets.specs.Order.{first}
 use Rattle.octets.proofs.Cases.{cases, holds?}
-use Rattle.line_cutter.specs.Line.{before}
+use Rattle.line_cutter.specs.Line.{lineMost, keptMost, before}
 use Rattle.line_cutter.proofs.Line.{Free, before-free, before-take, before-stop, before-part-at, free-first}
 use Rattle.hex.specs.Hex.{isDigit, odd, foreign, unhex, decoded, digit}
 use Rattle.hex.proofs.Hex.{foreign-no, unhex-length, unhex-whole, whole-good}
@@ -52,13 +52,13 @@ later false e = e
 -- a line parted at its first tab
 module _ (s t : List ℕ) (f : Free 9 s) where
   parted : answer (s ++ (9 ∷ t)) ≡
-      first ((ltb 1024 (length (s ++ (9 ∷ t))), bad) ∷ (not (eqb (suc (tabs t)) 1), bad) ∷ (odd t, bad) ∷ (foreign t, bad) ∷ [])
+      first ((ltb lineMost (length (s ++ (9 ∷ t))), bad) ∷ (not (eqb (suc (tabs t)) 1), bad) ∷ (odd t, bad) ∷ (foreign t, bad) ∷ [])
       (s ++ told (readOutcome (readHeader (unhex t))))
   unfolding answer
   parted = rw (before-free 9 s t f, tabs-at s t f, drop-append-add s (9 ∷ t) 1)
 
   -- whole digits and no more than 1,024 bytes: the label, and what the header says
-  pub answer-good : length (s ++ (9 ∷ t)) ≤ 1024 → 2 * length (unhex t) ≡ length t →
+  pub answer-good : length (s ++ (9 ∷ t)) ≤ lineMost → 2 * length (unhex t) ≡ length t →
       answer (s ++ (9 ∷ t)) ≡ s ++ told (readOutcome (readHeader (unhex t)))
   answer-good h w =
       let g = whole-good t w in
@@ -68,10 +68,10 @@ module _ (s t : List ℕ) (f : Free 9 s) where
   pub answer-part : (2 * length (unhex t) ≡ length t → ⊥) → answer (s ++ (9 ∷ t)) ≡ bad
   answer-part w =
       parted
-      ∙ later (ltb 1024 (length (s ++ (9 ∷ t)))) (later (not (eqb (suc (tabs t)) 1))
+      ∙ later (ltb lineMost (length (s ++ (9 ∷ t)))) (later (not (eqb (suc (tabs t)) 1))
       (cases (holds? (odd t)) (λ o. simp o) (λ o. cases (holds? (foreign t)) (λ g. simp (o, g)) (λ g. absurd (w (unhex-whole t o g))))))
 
-pub answer-long : (l : List ℕ) → 1024 < length l → answer l ≡ bad
+pub answer-long : (l : List ℕ) → lineMost < length l → answer l ≡ bad
 unfolding answer
 answer-long l h = simp (lt-ltb _ _ h)
 
@@ -80,19 +80,19 @@ unfolding answer
 answer-tabless l h =
     let whole : before 9 9 l ≡ l = sym (before-take 9 9 l) ∙ take-all (length (before 9 9 l)) l h in
     let none : tabs l ≡ 0 = tabs-free l (subst (Free 9) whole (free-first 9 9 l)) in
-    later (ltb 1024 (length l)) (simp none)
+    later (ltb lineMost (length l)) (simp none)
 
-pub answer-front : (l : List ℕ) → answer (take 1025 l) ≡ answer l
+pub answer-front : (l : List ℕ) → answer (take keptMost l) ≡ answer l
 answer-front l =
-    cases (holds? (ltb (length l) 1025))
-    (λ t. let h : length l ≤ 1025 = omega (arith, ltb-true (length l) 1025 t) in ap answer (take-all 1025 l h))
+    cases (holds? (ltb (length l) keptMost))
+    (λ t. let h : length l ≤ keptMost = omega (arith, ltb-true (length l) keptMost t) in ap answer (take-all keptMost l h))
     (λ t.
-    let h : 1025 ≤ length l = ltb-false _ _ t in
-    let k : length (take 1025 l) ≡ 1025 = length-take-le 1025 l h in
-    answer-long (take 1025 l) (omega arith) ∙ sym (answer-long l (omega arith)))
+    let h : keptMost ≤ length l = ltb-false _ _ t in
+    let k : length (take keptMost l) ≡ keptMost = length-take-le keptMost l h in
+    answer-long (take keptMost l) (omega arith) ∙ sym (answer-long l (omega arith)))
 
 -- a line as it is parted by its first tab, with the bytes decoded behind that
-module _ (l : List ℕ) (tab n : ℕ) (e : tab ≡ length (before 9 9 l)) (short : length l ≤ 1024) (there : tab < length l)
+module _ (l : List ℕ) (tab n : ℕ) (e : tab ≡ length (before 9 9 l)) (short : length l ≤ lineMost) (there : tab < length l)
     (f : n ≡ length (decoded l (tab + 1) 512)) where
   here : length (before 9 9 l) < length l
   here = omega arith
@@ -113,7 +113,7 @@ module _ (l : List ℕ) (tab n : ℕ) (e : tab ≡ length (before 9 9 l)) (short
   line-good h =
       let w : 2 * length (unhex (drop (tab + 1) l)) ≡ length (drop (tab + 1) l) =
       omega (arith, ap length all-decoded, length-drop (tab + 1) l) in
-      let k : length (take tab l ++ (9 ∷ drop (tab + 1) l)) ≤ 1024 = rw (sym line-tab) short in
+      let k : length (take tab l ++ (9 ∷ drop (tab + 1) l)) ≤ lineMost = rw (sym line-tab) short in
       ap (λ (u : List ℕ). take tab l ++ told (readOutcome (readHeader u))) all-decoded
       ∙ sym (answer-good (take tab l) (drop (tab + 1) l) label-free k w)
       ∙ ap answer (sym line-tab)

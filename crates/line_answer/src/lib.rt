@@ -11,7 +11,7 @@ use line_cutter::find;
 use octets::Outcome;
 use octets::copy;
 
-// The most bytes that the digits of a line can stand for.
+// Room for the bytes that the digits of a line stand for.
 pub const FRAME_MOST: usize = 512;
 
 // Stores a number below 100 in decimal and a line feed.

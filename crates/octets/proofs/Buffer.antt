@@ -7,7 +7,7 @@ use native.Mathlib.Omega.{arith}
 use mathlib.Core.List.{List, [], _∷_, _++_, append-assoc}
 use mathlib.Core.Path.{_≡_, refl, sym, ap, _∙_}
 use lib.ListN.{length, set, take, drop}
-use lib.Seq.{sets, sets-eq, length-sets}
+use lib.Seq.{sets, sets-eq}
 use Rattle.octets.specs.Little.{split}
 use Rattle.octets.specs.Buffer.{laid}
 
@@ -30,11 +30,6 @@ laid-none l at = refl
 pub laid-cons : (l : List ℕ) (at x : ℕ) (b : List ℕ) → laid (set l at x) (at + 1) b ≡ laid l at (x ∷ b)
 unfolding laid
 laid-cons l at x b = rw add-one
-
--- a store keeps the length
-pub laid-length : (l : List ℕ) (at : ℕ) (b : List ℕ) → length (laid l at b) ≡ length l
-unfolding laid
-laid-length l at b = length-sets l at b
 
 laid-append : (l : List ℕ) (at : ℕ) (a b : List ℕ) → laid (laid l at a) (at + length a) b ≡ laid l at (a ++ b)
 unfolding laid
