@@ -59,7 +59,7 @@ fn most(s: &[u8], at: usize, room: usize) -> usize
 // Decodes the pairs of digits from a place of s on into out, up to the first pair that is not two digits or the end of
 // out's room, and returns how many bytes that gave. The digits are whole, neither odd nor foreign, where twice that
 // many end s. Asks that values has the value of each byte.
-pub fn decode(s: &[u8], at: usize, values: &[u16; 256], out: &mut [u8]) -> usize
+pub fn decode_by(s: &[u8], at: usize, values: &[u16; 256], out: &mut [u8]) -> usize
     requires { ⌜ Values (now values) ⌝ }
     ensures { λ r. ⌜ r ≡ length (decoded (now (s .entry)) at (length (now (out .entry)))) ⌝ }
     ensures { λ r. ⌜ now (out .exit)
@@ -78,4 +78,14 @@ pub fn decode(s: &[u8], at: usize, values: &[u16; 256], out: &mut [u8]) -> usize
         n += 1;
     }
     n
+}
+
+// The same with a table of its own.
+pub fn decode(s: &[u8], at: usize, out: &mut [u8]) -> usize
+    ensures { λ r. ⌜ r ≡ length (decoded (now (s .entry)) at (length (now (out .entry)))) ⌝ }
+    ensures { λ r. ⌜ now (out .exit)
+        ≡ laid (now (out .entry)) 0 (decoded (now (s .entry)) at (length (now (out .entry)))) ⌝ }
+{
+    let values = values();
+    decode_by(s, at, &values, out)
 }

@@ -5,7 +5,7 @@ ghost use Rattle.line_cutter.specs.Line.{lineFeed};
 ghost use Rattle.line_answer.specs.Answer.{decimal, told, said, bad, answer};
 ghost use Rattle.octets.specs.Stored.{Stored};
 use header::Header;
-use hex::decode;
+use hex::decode_by;
 use line_cutter::LINE_MOST;
 use line_cutter::find;
 use octets::Outcome;
@@ -87,7 +87,7 @@ pub fn put_answer(line: &[u8], values: &[u16; 256], out: &mut [u8], at: usize) -
     if tab >= line.len() {
         return put_bad(out, at);
     }
-    let n = decode(line, tab + 1, values, &mut frame);
+    let n = decode_by(line, tab + 1, values, &mut frame);
     if tab + 1 + 2 * n != line.len() {
         return put_bad(out, at);
     }

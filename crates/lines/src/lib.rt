@@ -8,7 +8,7 @@ ghost use Rattle.line_cutter.specs.Line.{keptMost};
 ghost use Rattle.line_cutter.specs.Lines.{last};
 ghost use Rattle.line_answer.specs.Answer.{answer};
 ghost use Rattle.lines.specs.Place.{isAt};
-use hex::decode;
+use hex::decode_by;
 use hex::values;
 use line_answer::FRAME_MOST;
 use line_answer::put_answer;
@@ -101,7 +101,7 @@ fn put_quick(
     if !is_at(chunk, tab, b'\t') {
         return Step { n: 0, used, at };
     }
-    let n = decode(chunk, tab + 1, values, frame);
+    let n = decode_by(chunk, tab + 1, values, frame);
     let end = tab + 1 + 2 * n;
     if !is_at(chunk, end, b'\n') {
         return Step { n: 0, used, at };

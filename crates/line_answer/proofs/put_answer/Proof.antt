@@ -30,16 +30,16 @@ tabless c =
     (same (sym (answer-tabless (a .line .now) (omega (arith, f .find .ensures, t .before .before .if2 .taken)))) (t .put-bad2 .ensures .0), omega arith)
 
 -- as many bytes as the frame has room for are decoded, and stand at its beginning
-few : (c : tie.After-decode) → c .decode .result ≤ 512
+few : (c : tie.After-decode-by) → c .decode-by .result ≤ 512
 few c =
     let f = c .before .before .before in
     let a = f .before .before .before .before .args in
-    omega (arith, c .decode .ensures .0, decoded-room (a .line .now) (f .find .result + 1) 512)
+    omega (arith, c .decode-by .ensures .0, decoded-room (a .line .now) (f .find .result + 1) 512)
 
-bytes : (c : tie.After-decode) →
-    take (c .decode .result) (c .decode .last .1 .1 .1 .0) ≡
+bytes : (c : tie.After-decode-by) →
+    take (c .decode-by .result) (c .decode-by .last .1 .1 .1 .0) ≡
     decoded (c .before .before .before .before .before .before .before .args .line .now) (c .before .before .before .find .result + 1) 512
-bytes c = ap (take (c .decode .result)) (c .decode .ensures .1) ∙ front _ _ (c .decode .result) (sym (c .decode .ensures .0)) (few c)
+bytes c = ap (take (c .decode-by .result)) (c .decode-by .ensures .1) ∙ front _ _ (c .decode-by .result) (sym (c .decode-by .ensures .0)) (few c)
 
 -- the label is the front of the line
 label : (c : tie.Else2) →
@@ -53,8 +53,8 @@ part c =
     let d = b .before .before in
     let f = d .before .before .before in
     let a = f .before .before .before .before .args in (
-      same (line-part (a .line .now) (f .find .result) (d .decode .result) (omega (arith, f .find .ensures)) (omega arith) (omega arith)
-          (d .decode .ensures .0) (b .if3 .taken))
+      same (line-part (a .line .now) (f .find .result) (d .decode-by .result) (omega (arith, f .find .ensures)) (omega arith) (omega arith)
+          (d .decode-by .ensures .0) (b .if3 .taken))
           (t .put-bad3 .ensures .0),
       omega (arith, t .put-bad3 .ensures .1),
     )
@@ -74,8 +74,8 @@ good c =
     let a = f .before .before .before .before .args in (
       same
           (ap (λ (u : List ℕ). take (f .find .result) (a .line .now) ++ told (readOutcome (readHeader u))) (bytes d)
-          ∙ line-good (a .line .now) (f .find .result) (d .decode .result) (omega (arith, f .find .ensures)) (f .before .if1 .left) (e .if2 .left)
-          (d .decode .ensures .0) (b .if3 .left))
+          ∙ line-good (a .line .now) (f .find .result) (d .decode-by .result) (omega (arith, f .find .ensures)) (f .before .if1 .left) (e .if2 .left)
+          (d .decode-by .ensures .0) (b .if3 .left))
           (p .put-good .ensures .0),
       omega (arith, p .put-good .ensures .1, label e, e .if2 .left),
     )
@@ -87,5 +87,5 @@ put-answer-spec =
     (λ c. search needs) (λ c. search needs) (λ c κs. search needs) (λ c. search needs) (λ c. omega (arith, few (c .before)))
     (λ c. omega (arith, few (c .before))) (λ c κs. search needs) (λ c. search needs) part
     (λ c. sym (label (c .before .before .before .before .before)))
-    (λ c. search needs) (λ c. let d = c .before .before .before .before in d .decode .ensures .0 ∙ sym (ap length (bytes d))) room
+    (λ c. search needs) (λ c. let d = c .before .before .before .before in d .decode-by .ensures .0 ∙ sym (ap length (bytes d))) room
     (λ c. search needs) good)

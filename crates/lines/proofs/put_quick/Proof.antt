@@ -29,45 +29,45 @@ tab-within : (c : tie.Else1) →
 tab-within c = there (c .before .before .before .before .before .before .args .chunk .now) (c .before .before .find .result) 9 (tab-there c) .0
 
 -- the bytes that are decoded behind it stand at the beginning of the frame
-count : (c : tie.After-decode) →
+count : (c : tie.After-decode-by) →
     let f = c .before .before .before .before in
-    c .decode .result ≡ length (decoded (f .before .before .before .before .args .chunk .now) (f .find .result + 1) 512)
+    c .decode-by .result ≡ length (decoded (f .before .before .before .before .args .chunk .now) (f .find .result + 1) 512)
 count c =
     let f = c .before .before .before .before in
     let s = f .before .before .before .before in
-    c .decode .ensures .0 ∙ ap (λ (k : ℕ). length (decoded (s .args .chunk .now) (f .find .result + 1) k)) (s .pre .1 .0)
+    c .decode-by .ensures .0 ∙ ap (λ (k : ℕ). length (decoded (s .args .chunk .now) (f .find .result + 1) k)) (s .pre .1 .0)
 
-few : (c : tie.After-decode) → c .decode .result ≤ 512
+few : (c : tie.After-decode-by) → c .decode-by .result ≤ 512
 few c =
     let f = c .before .before .before .before in
     omega (arith, count c, decoded-room (f .before .before .before .before .args .chunk .now) (f .find .result + 1) 512)
 
-bytes : (c : tie.After-decode) →
+bytes : (c : tie.After-decode-by) →
     let f = c .before .before .before .before in
-    take (c .decode .result) (c .decode .last .1 .1 .1 .0) ≡ decoded (f .before .before .before .before .args .chunk .now) (f .find .result + 1) 512
+    take (c .decode-by .result) (c .decode-by .last .1 .1 .1 .0) ≡ decoded (f .before .before .before .before .args .chunk .now) (f .find .result + 1) 512
 bytes c =
     let f = c .before .before .before .before in
     let s = f .before .before .before .before in
-    ap (take (c .decode .result))
-    (c .decode .ensures .1
+    ap (take (c .decode-by .result))
+    (c .decode-by .ensures .1
     ∙ ap (λ (k : ℕ). laid (s .args .frame .now) 0 (decoded (s .args .chunk .now) (f .find .result + 1) k)) (s .pre .1 .0))
-    ∙ front (s .args .frame .now) _ (c .decode .result) (sym (count c)) (omega (arith, few c, s .pre .1 .0))
+    ∙ front (s .args .frame .now) _ (c .decode-by .result) (sym (count c)) (omega (arith, few c, s .pre .1 .0))
 
 -- a line feed ends the digits
 feed-there : (c : tie.Else2) →
     let d = c .before .before .before .before in
     let f = d .before .before .before .before in
-    isAt (f .before .before .before .before .args .chunk .now) (f .find .result + 1 + 2 * d .decode .result) 10 ≡ true
+    isAt (f .before .before .before .before .args .chunk .now) (f .find .result + 1 + 2 * d .decode-by .result) 10 ≡ true
 feed-there c = sym (c .before .is-at2 .ensures) ∙ not-false _ (c .if2 .left)
 
 feed-within : (c : tie.Else2) →
     let d = c .before .before .before .before in
     let f = d .before .before .before .before in
-    f .find .result + 1 + 2 * d .decode .result < length (f .before .before .before .before .args .chunk .now)
+    f .find .result + 1 + 2 * d .decode-by .result < length (f .before .before .before .before .args .chunk .now)
 feed-within c =
     let d = c .before .before .before .before in
     let f = d .before .before .before .before in
-    there (f .before .before .before .before .args .chunk .now) (f .find .result + 1 + 2 * d .decode .result) 10 (feed-there c) .0
+    there (f .before .before .before .before .args .chunk .now) (f .find .result + 1 + 2 * d .decode-by .result) 10 (feed-there c) .0
 
 -- the label is a part of the chunk
 label : (c : tie.Else2) →
@@ -95,13 +95,13 @@ good c =
     let f = d .before .before .before .before in
     let s = f .before .before .before .before in
     let a = s .args in (
-      quick-fed (a .chunk .now) (a .at) (f .find .result) (d .decode .result) (f .find .ensures) (tab-there (d .before .before)) (count d) (feed-there e)
+      quick-fed (a .chunk .now) (a .at) (f .find .result) (d .decode-by .result) (f .find .ensures) (tab-there (d .before .before)) (count d) (feed-there e)
           (x .if3 .left) (a .out .now) _ (a .used) (p .put-good .result)
           (same (ap (λ (u : List ℕ). take (f .find .result - a .at) (drop (a .at) (a .chunk .now)) ++ said u) (bytes d)) (p .put-good .ensures .0)),
       (refl, (omega (arith, f .find .ensures), (omega (arith, feed-within e), omega (arith, p .put-good .ensures .1, label e, feed-within e, f .find .ensures)))),
     )
 
-abbrev start : tie.After-decode → tie.Start
+abbrev start : tie.After-decode-by → tie.Start
 start c = c .before .before .before .before .before .before .before .before
 
 -- the quick way is not taken, and nothing has moved

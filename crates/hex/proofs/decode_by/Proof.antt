@@ -1,4 +1,4 @@
--- `hex::decode` meets its contract. The invariant: what is left to decode, stored from where the loop stands, gives what is wanted.
+-- `hex::decode_by` meets its contract. The invariant: what is left to decode, stored from where the loop stands, gives what is wanted.
 -- Assumes nothing.
 use Prim.Native.Nat.{ℕ, _+_, _-_, _*_, _≤_, _<_}
 use native.Mathlib.Omega.{arith}
@@ -10,8 +10,8 @@ use Rattle.octets.specs.Buffer.{laid}
 use Rattle.octets.proofs.Buffer.{laid-none, laid-cons}
 use Rattle.hex.specs.Hex.{worth, decoded}
 use Rattle.hex.proofs.Hex.{worth-small, unhex-other, rest, rest-all, rest-pair, rest-none, rest-end}
-use Rattle.hex.proofs.decode.Statement.{statement}
-use Rattle.hex.proofs.decode.Tie as tie
+use Rattle.hex.proofs.decode_by.Statement.{statement}
+use Rattle.hex.proofs.decode_by.Tie as tie
 
 abbrev Inv-loop : tie.InvT-loop
 Inv-loop s at values out₀ end n₀ out n =
@@ -104,8 +104,8 @@ all c =
     let a = m .before .before .before .args in
     done _ _ _ _ _ (l .inv .4) (l .inv .5) (rest-end (a .s .now) (a .at) (length (a .out .now)) (l .n) (omega (arith, m .most .ensures)))
 
-pub decode-spec : {M : Type 1} → statement M
-decode-spec =
+pub decode-by-spec : {M : Type 1} → statement M
+decode-by-spec =
     tie.close
     (tie.spec Inv-loop μ-loop (λ c κs. search needs) loop-holds (λ c. search needs) (λ c. search needs) (λ c. search needs)
     (λ c. omega (arith, high-byte c))
