@@ -52,10 +52,10 @@ laid-past l at [] h = refl
 laid-past l at (x ∷ b) h =
     ap (λ (m : List ℕ). sets m (suc at) b) (set-past l at x h) ∙ laid-past l (suc at) b (omega arith)
   where
-  set-past : (l : List ℕ) (i x : ℕ) → length l ≤ i → set l i x ≡ l
-  set-past [] i x h = refl
-  set-past (y ∷ l) zero x h = absurd (omega arith)
-  set-past (y ∷ l) (suc i) x h = ap (λ (m : List ℕ). y ∷ m) (set-past l i x (omega arith))
+    set-past : (l : List ℕ) (i x : ℕ) → length l ≤ i → set l i x ≡ l
+    set-past [] i x h = refl
+    set-past (y ∷ l) zero x h = absurd (omega arith)
+    set-past (y ∷ l) (suc i) x h = ap (λ (m : List ℕ). y ∷ m) (set-past l i x (omega arith))
 
 -- one store and the next are one
 pub laid-join : (l : List ℕ) (at next n : ℕ) (a b : List ℕ) → length a ≡ n → next ≡ at + n → laid (laid l at a) next b ≡ laid l at (a ++ b)

@@ -1,4 +1,4 @@
--- That two answers allowed by a contract coincide (document 01, "What a contract decides"), for each shape that the contract of a public
+-- That two answers allowed by a contract coincide (document 01, "What each contract has to decide"), for each shape that the contract of a public
 -- function has.
 -- Assumes nothing.
 use Prim.Native.Nat.{ℕ, _+_}

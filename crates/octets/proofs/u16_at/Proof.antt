@@ -11,8 +11,15 @@ returns c =
     let place = second .before in
     let low = place .before in
     let a = low .before .before .before .args in
-    rw (number-join (a .s .now) (a .at) 1 1, low .wide .ensures .0, low .before .u8-at .ensures, c .wide2 .ensures .0,
-    second .u8-at2 .ensures, place .behind .ensures, number-behind (a .s .now) (a .at) 1 1)
+    rw (
+      number-join (a .s .now) (a .at) 1 1,
+      low .wide .ensures .0,
+      low .before .u8-at .ensures,
+      c .wide2 .ensures .0,
+      second .u8-at2 .ensures,
+      place .behind .ensures,
+      number-behind (a .s .now) (a .at) 1 1,
+    )
 
 pub u16-at-spec : {M : Type 1} → statement M
 u16-at-spec =

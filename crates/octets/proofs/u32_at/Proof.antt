@@ -9,8 +9,13 @@ returns : tie.Need-returns
 returns c =
     let place = c .before in
     let a = place .before .before .before .args in
-    rw (number-join (a .s .now) (a .at) 2 2, place .before .u16-at .ensures, c .u16-at2 .ensures, place .behind .ensures,
-    number-behind (a .s .now) (a .at) 2 2)
+    rw (
+      number-join (a .s .now) (a .at) 2 2,
+      place .before .u16-at .ensures,
+      c .u16-at2 .ensures,
+      place .behind .ensures,
+      number-behind (a .s .now) (a .at) 2 2,
+    )
 
 pub u32-at-spec : {M : Type 1} → statement M
 u32-at-spec =

@@ -9,8 +9,13 @@ returns : tie.Need-returns
 returns c =
     let place = c .before in
     let a = place .before .before .before .args in
-    rw (number-join (a .s .now) (a .at) 4 4, place .before .u32-at .ensures, c .u32-at2 .ensures, place .behind .ensures,
-    number-behind (a .s .now) (a .at) 4 4)
+    rw (
+      number-join (a .s .now) (a .at) 4 4,
+      place .before .u32-at .ensures,
+      c .u32-at2 .ensures,
+      place .behind .ensures,
+      number-behind (a .s .now) (a .at) 4 4,
+    )
 
 pub u64-at-spec : {M : Type 1} → statement M
 u64-at-spec =
