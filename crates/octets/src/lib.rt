@@ -97,7 +97,7 @@ pub fn u8_at(s: &[u8], at: usize) -> u8
 }
 
 // The place n bytes behind another, or where s ends.
-fn behind(s: &[u8], at: usize, n: usize) -> usize
+pub fn behind(s: &[u8], at: usize, n: usize) -> usize
     ensures { λ r. ⌜ r ≡ cond (ltb (length (now (s .entry)) - at) n) (length (now (s .entry))) (at + n) ⌝ }
 {
     if left(s, at) < n { s.len() } else { at + n }
