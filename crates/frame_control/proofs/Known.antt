@@ -1,10 +1,10 @@
 -- Listed values and their bits undo each other.
 -- Assumes nothing.
-use Prim.Native.Nat.{ℕ, _<_}
+use Prim.Native.Nat.{ℕ, zero, suc, _<_}
 use native.Mathlib.Omega.{arith}
-use mathlib.Core.Logic.{_⊎_}
+use mathlib.Core.Bool.{false, true≢false}
 use mathlib.Core.Path.{_≡_, refl}
-use Rattle.octets.proofs.Bits.{find-again}
+use lib.Dec.{eqb}
 use Rattle.frame_control.specs.declared.FrameType.{FrameType}
 use Rattle.frame_control.specs.declared.FrameType.the-variants as Kind
 use Rattle.frame_control.specs.declared.FrameTypeRead.the-variants as TypeRead
@@ -14,9 +14,9 @@ use Rattle.frame_control.specs.declared.FrameVersionRead.the-variants as
 use Rattle.frame_control.specs.declared.AddressMode.{AddressMode}
 use Rattle.frame_control.specs.declared.AddressMode.the-variants as Mode
 use Rattle.frame_control.specs.declared.AddressModeRead.the-variants as ModeRead
-use Rattle.frame_control.specs.Types.{types, typeOf, typeBits}
-use Rattle.frame_control.specs.Versions.{versions, versionOf, versionBits}
-use Rattle.frame_control.specs.Modes.{modes, modeOf, modeBits}
+use Rattle.frame_control.specs.Types.{typeOf, typeIn, typeBits}
+use Rattle.frame_control.specs.Versions.{versionOf, versionIn, versionBits}
+use Rattle.frame_control.specs.Modes.{modeOf, modeIn, modeBits}
 
 -- the bits of a value are read as that value
 pub type-back : (t : FrameType) → typeOf (typeBits t) ≡ TypeRead.Read t
@@ -41,19 +41,54 @@ mode-back Mode.None = refl
 mode-back Mode.Short = refl
 mode-back Mode.Extended = refl
 
--- any number is refused, or is the bits of the value that it is read as
-pub type-again : (n : ℕ) → (typeOf n ≡ TypeRead.Refused) ⊎ ((t : FrameType) × (typeOf n ≡ TypeRead.Read t) × (typeBits t ≡ n))
+-- they are none of the numbers that are refused
+pub type-listed : (t : FrameType) → eqb (typeBits t) 4 ≡ false
+type-listed Kind.Beacon = refl
+type-listed Kind.Data = refl
+type-listed Kind.Acknowledgement = refl
+type-listed Kind.MacCommand = refl
+type-listed Kind.Multipurpose = refl
+type-listed Kind.FragOrFragAck = refl
+type-listed Kind.Extended = refl
+
+pub version-listed : (v : FrameVersion) → eqb (versionBits v) 3 ≡ false
+version-listed Version.«Ieee802154_2003» = refl
+version-listed Version.«Ieee802154_2006» = refl
+version-listed Version.Ieee802154 = refl
+
+pub mode-listed : (m : AddressMode) → eqb (modeBits m) 1 ≡ false
+mode-listed Mode.None = refl
+mode-listed Mode.Short = refl
+mode-listed Mode.Extended = refl
+
+-- any other number that fits the field is the bits of its value
+pub type-again : (n : ℕ) → n < 8 → eqb n 4 ≡ false → typeBits (typeIn n) ≡ n
 unfolding typeOf
-type-again n = find-again typeBits types TypeRead.Refused TypeRead.Read n (refl, (refl, (refl, (refl, (refl, (refl, (refl, tt)))))))
+type-again zero h e = refl
+type-again (suc zero) h e = refl
+type-again (suc (suc zero)) h e = refl
+type-again (suc (suc (suc zero))) h e = refl
+type-again (suc (suc (suc (suc zero)))) h e = absurd (true≢false e)
+type-again (suc (suc (suc (suc (suc zero))))) h e = refl
+type-again (suc (suc (suc (suc (suc (suc zero)))))) h e = refl
+type-again (suc (suc (suc (suc (suc (suc (suc zero))))))) h e = refl
+type-again (suc (suc (suc (suc (suc (suc (suc (suc n)))))))) h e = absurd (omega arith)
 
-pub version-again : (n : ℕ) →
-    (versionOf n ≡ VersionRead.Refused) ⊎ ((v : FrameVersion) × (versionOf n ≡ VersionRead.Read v) × (versionBits v ≡ n))
+pub version-again : (n : ℕ) → n < 4 → eqb n 3 ≡ false → versionBits (versionIn n) ≡ n
 unfolding versionOf
-version-again n = find-again versionBits versions VersionRead.Refused VersionRead.Read n (refl, (refl, (refl, tt)))
+version-again zero h e = refl
+version-again (suc zero) h e = refl
+version-again (suc (suc zero)) h e = refl
+version-again (suc (suc (suc zero))) h e = absurd (true≢false e)
+version-again (suc (suc (suc (suc n)))) h e = absurd (omega arith)
 
-pub mode-again : (n : ℕ) → (modeOf n ≡ ModeRead.Refused) ⊎ ((m : AddressMode) × (modeOf n ≡ ModeRead.Read m) × (modeBits m ≡ n))
+pub mode-again : (n : ℕ) → n < 4 → eqb n 1 ≡ false → modeBits (modeIn n) ≡ n
 unfolding modeOf
-mode-again n = find-again modeBits modes ModeRead.Refused ModeRead.Read n (refl, (refl, (refl, tt)))
+mode-again zero h e = refl
+mode-again (suc zero) h e = absurd (true≢false e)
+mode-again (suc (suc zero)) h e = refl
+mode-again (suc (suc (suc zero))) h e = refl
+mode-again (suc (suc (suc (suc n)))) h e = absurd (omega arith)
 
 -- the bits fit their field
 pub type-small : (t : FrameType) → typeBits t < 8

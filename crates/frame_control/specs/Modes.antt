@@ -23,7 +23,10 @@ abbrev pub modeOutcome : AddressModeRead → Outcome
 modeOutcome (Read m) = accepted 0
 modeOutcome Refused = refused 4
 
--- what follows where it is refused, and where it is known
-abbrev pub mode? : {A : Type 0} → AddressModeRead → A → (AddressMode → A) → A
-mode? Refused other then = other
-mode? (Read m) other then = then m
+-- the mode of a number that is listed; None stands in for another, which is refused before it is asked for
+abbrev pub knownMode : AddressModeRead → AddressMode
+knownMode (Read m) = m
+knownMode Refused = None
+
+abbrev pub modeIn : ℕ → AddressMode
+modeIn n = knownMode (modeOf n)

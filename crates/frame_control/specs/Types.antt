@@ -36,7 +36,10 @@ abbrev pub typeOutcome : FrameTypeRead → Outcome
 typeOutcome (Read t) = accepted 0
 typeOutcome Refused = refused 3
 
--- what follows where it is refused, and where it is known
-abbrev pub type? : {A : Type 0} → FrameTypeRead → A → (FrameType → A) → A
-type? Refused other then = other
-type? (Read t) other then = then t
+-- the type of a number that is listed; Beacon stands in for another, which is refused before it is asked for
+abbrev pub knownType : FrameTypeRead → FrameType
+knownType (Read t) = t
+knownType Refused = Beacon
+
+abbrev pub typeIn : ℕ → FrameType
+typeIn n = knownType (typeOf n)

@@ -23,7 +23,10 @@ abbrev pub versionOutcome : FrameVersionRead → Outcome
 versionOutcome (Read v) = accepted 0
 versionOutcome Refused = refused 2
 
--- what follows where it is refused, and where it is known
-abbrev pub version? : {A : Type 0} → FrameVersionRead → A → (FrameVersion → A) → A
-version? Refused other then = other
-version? (Read v) other then = then v
+-- the version of a number that is listed; 2003 stands in for another, which is refused before it is asked for
+abbrev pub knownVersion : FrameVersionRead → FrameVersion
+knownVersion (Read v) = v
+knownVersion Refused = «Ieee802154_2003»
+
+abbrev pub versionIn : ℕ → FrameVersion
+versionIn n = knownVersion (versionOf n)

@@ -1,10 +1,10 @@
 // The frame control field: frame type, version and address modes by their bits, and the two bytes taken apart and put
 // together.
 ghost use Rattle.octets.specs.Words.{_≤_, _≡_};
-ghost use Rattle.frame_control.specs.Types.{typeOf, typeBits, typeOutcome};
-ghost use Rattle.frame_control.specs.Versions.{versionOf, versionBits, versionOutcome};
-ghost use Rattle.frame_control.specs.Modes.{modeOf, modeBits, modeOutcome};
-ghost use Rattle.frame_control.specs.Control.{controlIn, controlBits, controlOutcome};
+ghost use Rattle.frame_control.specs.Types.{typeOf, typeBits, typeOutcome, knownType};
+ghost use Rattle.frame_control.specs.Versions.{versionOf, versionBits, versionOutcome, knownVersion};
+ghost use Rattle.frame_control.specs.Modes.{modeOf, modeBits, modeOutcome, knownMode};
+ghost use Rattle.frame_control.specs.Control.{controlOf, controlIn, controlBits, controlOutcome};
 use octets::Outcome;
 use octets::bit_of;
 
@@ -31,6 +31,16 @@ impl FrameTypeRead {
         match self {
             FrameTypeRead::Read(_) => Outcome::accepted(0),
             FrameTypeRead::Refused => Outcome::refused(3),
+        }
+    }
+
+    // The type, Beacon where it is refused.
+    pub fn known(self) -> FrameType
+        ensures { λ r. ⌜ r ≡ knownType self ⌝ }
+    {
+        match self {
+            FrameTypeRead::Read(frame_type) => frame_type,
+            FrameTypeRead::Refused => FrameType::Beacon,
         }
     }
 }
@@ -89,6 +99,16 @@ impl FrameVersionRead {
             FrameVersionRead::Refused => Outcome::refused(2),
         }
     }
+
+    // The version, the one of 2003 where it is refused.
+    pub fn known(self) -> FrameVersion
+        ensures { λ r. ⌜ r ≡ knownVersion self ⌝ }
+    {
+        match self {
+            FrameVersionRead::Read(version) => version,
+            FrameVersionRead::Refused => FrameVersion::Ieee802154_2003,
+        }
+    }
 }
 
 impl FrameVersion {
@@ -135,6 +155,16 @@ impl AddressModeRead {
         match self {
             AddressModeRead::Read(_) => Outcome::accepted(0),
             AddressModeRead::Refused => Outcome::refused(4),
+        }
+    }
+
+    // The mode, None where it is refused.
+    pub fn known(self) -> AddressMode
+        ensures { λ r. ⌜ r ≡ knownMode self ⌝ }
+    {
+        match self {
+            AddressModeRead::Read(mode) => mode,
+            AddressModeRead::Refused => AddressMode::None,
         }
     }
 }
@@ -206,36 +236,46 @@ impl FrameControlRead {
 }
 
 impl FrameControl {
-    // What the two bytes say, as one number; bit 7 is not looked at.
-    pub fn from_bits(bits: u16) -> FrameControlRead
-        ensures { λ r. ⌜ r ≡ controlIn bits ⌝ }
+    // The fields of the two bytes, as one number; bit 7 is not looked at. A type, version or mode that is not known
+    // counts as 0.
+    pub fn of(bits: u16) -> Self
+        ensures { λ r. ⌜ r ≡ controlOf bits ⌝ }
     {
-        let FrameVersionRead::Read(version) = FrameVersion::from_bits((bits / 4096 % 4) as u8)
-        else {
-            return FrameControlRead::Refused(FrameControlRefusal::Version);
-        };
-        let FrameTypeRead::Read(frame_type) = FrameType::from_bits((bits % 8) as u8) else {
-            return FrameControlRead::Refused(FrameControlRefusal::FrameType);
-        };
-        let AddressModeRead::Read(destination) = AddressMode::from_bits((bits / 1024 % 4) as u8)
-        else {
-            return FrameControlRead::Refused(FrameControlRefusal::AddressMode);
-        };
-        let AddressModeRead::Read(source) = AddressMode::from_bits((bits / 16384 % 4) as u8) else {
-            return FrameControlRead::Refused(FrameControlRefusal::AddressMode);
-        };
-        FrameControlRead::Read(FrameControl {
-            frame_type,
+        let frame_type = FrameType::from_bits((bits % 8) as u8);
+        let destination = AddressMode::from_bits((bits / 1024 % 4) as u8);
+        let version = FrameVersion::from_bits((bits / 4096 % 4) as u8);
+        let source = AddressMode::from_bits((bits / 16384 % 4) as u8);
+        FrameControl {
+            frame_type: frame_type.known(),
             security: bits / 8 % 2 == 1,
             frame_pending: bits / 16 % 2 == 1,
             ack_request: bits / 32 % 2 == 1,
             pan_id_compress: bits / 64 % 2 == 1,
             seq_no_suppress: bits / 256 % 2 == 1,
             ie_present: bits / 512 % 2 == 1,
-            destination,
-            version,
-            source,
-        })
+            destination: destination.known(),
+            version: version.known(),
+            source: source.known(),
+        }
+    }
+
+    // What the two bytes say, as one number, or the first refusal.
+    pub fn from_bits(bits: u16) -> FrameControlRead
+        ensures { λ r. ⌜ r ≡ controlIn bits ⌝ }
+    {
+        if bits / 4096 % 4 == 3 {
+            return FrameControlRead::Refused(FrameControlRefusal::Version);
+        }
+        if bits % 8 == 4 {
+            return FrameControlRead::Refused(FrameControlRefusal::FrameType);
+        }
+        if bits / 1024 % 4 == 1 {
+            return FrameControlRead::Refused(FrameControlRefusal::AddressMode);
+        }
+        if bits / 16384 % 4 == 1 {
+            return FrameControlRead::Refused(FrameControlRefusal::AddressMode);
+        }
+        FrameControlRead::Read(FrameControl::of(bits))
     }
 
     // The field with bit 7 clear.

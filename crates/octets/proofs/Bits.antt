@@ -1,7 +1,7 @@
 -- Laws of the bits of a number.
 -- Assumes nothing.
 use Prim.Native.Nat.{ℕ, zero, suc, _+_, _*_, _%_, _^_, _≤_, _<_}
-use native.Mathlib.Nat.{mul-comm, mod-le}
+use native.Mathlib.Nat.{mul-comm, mod-le, div-one}
 use native.Mathlib.Omega.{arith}
 use mathlib.Core.Bool.{Bool, true, false}
 use mathlib.Core.List.{List, [], _∷_, _++_}
@@ -30,6 +30,10 @@ bit-again (suc (suc x)) h = absurd (omega arith)
 pub bit-small : (flag : Bool) → bitOf flag < 2
 bit-small true = omega arith
 bit-small false = omega arith
+
+-- the lowest bits are a remainder
+pub bits-low : (w count : ℕ) → bits w 0 count ≡ w % 2 ^ count
+bits-low w count = ap (λ (x : ℕ). x % 2 ^ count) (div-one w)
 
 -- the low bits and the next ones are the low bits of a longer part
 pub bits-join : (w at count : ℕ) → w % 2 ^ (at + count) ≡ bits w at count * 2 ^ at + w % 2 ^ at
