@@ -1,10 +1,10 @@
--- `header_measure::security_size` meets its contract: each arm's number is listed, and the last arm's is none of those.
+-- `header_bytes::security_size` meets its contract: each arm's number is listed, and the last arm's is none of those.
 -- Assumes nothing.
 use native.Mathlib.Omega.{arith}
 use mathlib.Core.Path.{refl}
 use borrow.Author.Tests.{ne-eqb}
-use Rattle.header_measure.proofs.security_size.Statement.{statement}
-use Rattle.header_measure.proofs.security_size.Tie as tie
+use Rattle.header_bytes.proofs.security_size.Statement.{statement}
+use Rattle.header_bytes.proofs.security_size.Tie as tie
 
 other : tie.Need-returns-4
 other c =

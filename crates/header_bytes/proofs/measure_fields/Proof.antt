@@ -1,4 +1,4 @@
--- `header_measure::measure_fields` meets its contract: its tests are the definition's, in their order. Behind each test that does not hold,
+-- `header_bytes::measure_fields` meets its contract: its tests are the definition's, in their order. Behind each test that does not hold,
 -- the tests that are left answer what all of them answer.
 -- Assumes nothing.
 use Prim.Native.Nat.{ℕ}
@@ -8,16 +8,16 @@ use borrow.Author.Needs.{needs}
 use denote.Ref.{now}
 use lib.ListN.{drop}
 use Rattle.octets.specs.declared.Outcome.{Outcome}
-use Rattle.header_facts.specs.Order.{wholeEnd, fieldTests, answered}
-use Rattle.header_measure.proofs.measure_fields.Statement.{statement}
-use Rattle.header_measure.proofs.measure_fields.Tie as tie
+use Rattle.header_bytes.specs.{Layout.headerEnd, Reading.fieldTests, Reading.answered}
+use Rattle.header_bytes.proofs.measure_fields.Statement.{statement}
+use Rattle.header_bytes.proofs.measure_fields.Tie as tie
 
 -- what the tests answer, the first k of them left out
 abbrev from : ℕ → tie.Start → Outcome
 from k start =
     let s = now (start .args .s) in
     let w = start .args .w in
-    answered (drop k (fieldTests s w)) (wholeEnd s w)
+    answered (drop k (fieldTests s w)) (headerEnd s w)
 
 destination-there : (c : tie.Else1) → let start = c .before .before .before in from 1 start ≡ from 0 start
 destination-there c = simp (rw (c .before .destination-end .ensures .0) at (le-ltb _ _ (c .if1 .left)))
@@ -31,7 +31,7 @@ shared c =
 source-there : (c : tie.Else3) → let start = c .before .before .before .before .before .before .before in from 3 start ≡ from 0 start
 source-there c =
     let start = c .before .before .before .before .before .before .before in
-    let here : from 3 start ≡ from 2 start = simp (rw (c .before .addresses-end .ensures .0) at (le-ltb _ _ (c .if3 .left))) in
+    let here : from 3 start ≡ from 2 start = simp (rw (c .before .source-end .ensures .0) at (le-ltb _ _ (c .if3 .left))) in
     here ∙ shared (c .before .before)
 
 destination : tie.Need-returns
@@ -48,18 +48,18 @@ source : tie.Need-returns-3
 source c =
     let test = c .before in
     rw (← shared (test .before .before))
-    (simp (c .refused3 .ensures, rw (test .before .addresses-end .ensures .0) at (lt-ltb _ _ (test .if3 .taken))))
+    (simp (c .refused3 .ensures, rw (test .before .source-end .ensures .0) at (lt-ltb _ _ (test .if3 .taken))))
 
 security : tie.Need-returns-4
 security c =
     let test = c .before in
     rw (← source-there (test .before .before))
-    (simp (c .refused4 .ensures, rw (test .before .whole-end .ensures .0) at (lt-ltb _ _ (test .if4 .taken))))
+    (simp (c .refused4 .ensures, rw (test .before .header-end .ensures .0) at (lt-ltb _ _ (test .if4 .taken))))
 
 all : tie.Need-returns-5
 all c =
     let test = c .before in
-    let end = test .before .whole-end .ensures .0 in
+    let end = test .before .header-end .ensures .0 in
     rw (← source-there (test .before .before)) (rw (rw end at (le-ltb _ _ (test .if4 .left)), ← end) (c .accepted .ensures))
 
 pub measure-fields-spec : {M : Type 1} → statement M

@@ -1,8 +1,8 @@
--- `header_measure::unshared` meets its contract: by the compression bit.
+-- `header_bytes::unshared` meets its contract: by the compression bit.
 -- Assumes nothing.
 use borrow.Author.Tests.{eq-eqb, ne-eqb}
-use Rattle.header_measure.proofs.unshared.Statement.{statement}
-use Rattle.header_measure.proofs.unshared.Tie as tie
+use Rattle.header_bytes.proofs.unshared.Statement.{statement}
+use Rattle.header_bytes.proofs.unshared.Tie as tie
 
 pub unshared-spec : {M : Type 1} → statement M
 unshared-spec =

@@ -1,12 +1,15 @@
--- `header_measure::address_size` meets its contract: by the compression bit and the mode.
+-- `header_bytes::address_size` meets its contract: by the compression bit and the mode.
 -- Assumes nothing.
-use Prim.Native.Nat.{ℕ, zero, suc, _+_, _*_, _<_}
+use Prim.Native.Nat.{ℕ, zero, suc, _+_, _*_, _≤_, _<_}
+use mathlib.Core.Bool.{Bool, true, false, not, _&&_}
 use mathlib.Core.Path.{_≡_, refl}
 use native.Mathlib.Omega.{arith}
 use borrow.Author.Needs.{needs}
-use borrow.Author.Tests.{ne-eqb}
-use Rattle.header_measure.proofs.address_size.Statement.{statement}
-use Rattle.header_measure.proofs.address_size.Tie as tie
+use borrow.Author.Tests.{ne-eqb, le-ltb}
+use lib.Dec.{eqb, ltb}
+use Rattle.header_bytes.specs.Layout.{panSize, addressSize}
+use Rattle.header_bytes.proofs.address_size.Statement.{statement}
+use Rattle.header_bytes.proofs.address_size.Tie as tie
 
 short : tie.Need-returns
 short c =
@@ -42,12 +45,20 @@ neither zero m h two three six seven = (λ e. two (omega arith), λ e. three (om
 neither (suc zero) m h two three six seven = (λ e. six (omega arith), λ e. seven (omega arith))
 neither (suc (suc c)) m h two three six seven = absurd (omega arith)
 
+-- no address, no PAN id
+without : (compressed : Bool) (mode : ℕ) → mode < 4 → (mode ≡ 2 → ⊥) → (mode ≡ 3 → ⊥) → 0 ≡ panSize (not compressed && ltb 1 mode) + addressSize mode
+without true mode h two three = simp (ne-eqb _ _ two, ne-eqb _ _ three)
+without false mode h two three =
+    let small : mode ≤ 1 = omega (arith, two, three) in
+    simp (ne-eqb _ _ two, ne-eqb _ _ three, le-ltb 1 mode small)
+
 none : tie.Need-returns-5
 none c =
     let start = c .before in
+    let a = start .args in
     let r = c .match .rest in
-    let q = neither (start .args .compressed) (start .args .mode) (start .pre .0) (r .0 .0 .0 .1) (r .0 .0 .1) (r .0 .1) (r .1) in
-    simp (ne-eqb _ _ (q .0), ne-eqb _ _ (q .1)) (refl, omega arith)
+    let q = neither (a .compressed) (a .mode) (start .pre .0) (r .0 .0 .0 .1) (r .0 .0 .1) (r .0 .1) (r .1) in
+    (without (eqb (a .compressed) 1) (a .mode) (start .pre .1) (q .0) (q .1), omega arith)
 
 pub address-size-spec : {M : Type 1} → statement M
 address-size-spec = tie.close (tie.spec (λ c. search needs) (λ c. search needs) short extended bare-short bare-extended none)

@@ -1,27 +1,20 @@
-// Number and length of the header at the beginning of a slice, told by the bits of its frame control. No record is
-// made.
-ghost use Rattle.octets.specs.Words.{_≤_, _<_, false, cond, _≡_, eqb};
-ghost use Rattle.octets.specs.Bits.{bits, bit};
-ghost use Rattle.octets.specs.Little.{number};
-ghost use Rattle.header.specs.Read.{readHeader, readOutcome};
-ghost use Rattle.header_facts.specs.Order.{addressSize, securitySize, toEnd, fromEnd, wholeEnd};
-ghost use Rattle.header_facts.specs.Order.{fieldTests, answered, lacksSource};
+// The header at the beginning of a slice, by its bytes alone: its number and length, told by the bits of its frame
+// control. No record is made. What stands in specs/ is what records, measuring and the C entries share.
+ghost use Rattle.octets.specs.Words.{_+_, _≤_, _<_, not, _&&_, _≡_, ltb, eqb};
+ghost use Rattle.header_bytes.specs.Layout.{panSize, addressSize, securitySize};
+ghost use Rattle.header_bytes.specs.Layout.{destinationEnd, sourceEnd, headerEnd};
+ghost use Rattle.header_bytes.specs.Reading.{unshared, fieldTests, answered, measured};
+ghost use Rattle.header_bytes.specs.Rewriting.{sourceless};
 use octets::Outcome;
+use octets::u8_at;
 use octets::u16_at;
-
-// The byte at a place, 0 past the end.
-fn byte_at(s: &[u8], at: usize) -> u8
-    ensures { λ r. ⌜ r ≡ number (now (s .entry)) at 1 ⌝ }
-{
-    if at < s.len() { s[at] } else { 0 }
-}
 
 // Bytes of an address by its compression bit and the number of its mode, 2 short or 3 extended: its PAN id (2), unless
 // it is compressed, and its address (2 or 8). Asks that these are one bit and two.
 fn address_size(compressed: usize, mode: usize) -> usize
     requires { ⌜ compressed < 2 ⌝ }
     requires { ⌜ mode < 4 ⌝ }
-    ensures { λ r. ⌜ r ≡ addressSize (eqb compressed 1) mode ⌝ }
+    ensures { λ r. ⌜ r ≡ panSize (not (eqb compressed 1) && ltb 1 mode) + addressSize mode ⌝ }
     ensures { λ r. ⌜ r ≤ 10 ⌝ }
 {
     match 4 * compressed + mode {
@@ -35,15 +28,15 @@ fn address_size(compressed: usize, mode: usize) -> usize
 
 // Where the destination ends by a frame control.
 fn destination_end(w: usize) -> usize
-    ensures { λ r. ⌜ r ≡ toEnd w ⌝ }
+    ensures { λ r. ⌜ r ≡ destinationEnd w ⌝ }
     ensures { λ r. ⌜ r ≤ 13 ⌝ }
 {
     3 + address_size(0, w / 1024 % 4)
 }
 
-// Where the addresses end by a frame control.
-pub fn addresses_end(w: usize) -> usize
-    ensures { λ r. ⌜ r ≡ fromEnd w ⌝ }
+// Where the source ends by a frame control.
+pub fn source_end(w: usize) -> usize
+    ensures { λ r. ⌜ r ≡ sourceEnd w ⌝ }
     ensures { λ r. ⌜ r ≤ 23 ⌝ }
 {
     destination_end(w) + address_size(w / 64 % 2, w / 16384 % 4)
@@ -63,24 +56,24 @@ fn security_size(mode: u8) -> usize
     }
 }
 
-// Where the header ends by a frame control, and by the security control where the addresses end, at the place that is
+// Where the header ends by a frame control, and by the security control where the source ends, at the place that is
 // handed over.
-fn whole_end(s: &[u8], w: usize, at: usize) -> usize
-    requires { ⌜ at ≡ fromEnd w ⌝ }
+fn header_end(s: &[u8], w: usize, at: usize) -> usize
+    requires { ⌜ at ≡ sourceEnd w ⌝ }
     requires { ⌜ at ≤ 23 ⌝ }
-    ensures { λ r. ⌜ r ≡ wholeEnd (now (s .entry)) w ⌝ }
+    ensures { λ r. ⌜ r ≡ headerEnd (now (s .entry)) w ⌝ }
     ensures { λ r. ⌜ r ≤ 37 ⌝ }
 {
     if w / 8 % 2 == 1 {
-        at + security_size(byte_at(s, at) / 8 % 4)
+        at + security_size(u8_at(s, at) / 8 % 4)
     } else {
         at
     }
 }
 
 // Compression without a source, which reading accepts and writing refuses with 6.
-pub fn lacks_source(w: usize) -> bool
-    ensures { λ r. ⌜ r ≡ lacksSource w ⌝ }
+pub fn sourceless(w: usize) -> bool
+    ensures { λ r. ⌜ r ≡ sourceless w ⌝ }
 {
     if w / 64 % 2 == 1 {
         w / 16384 % 4 == 0
@@ -91,7 +84,7 @@ pub fn lacks_source(w: usize) -> bool
 
 // Compression without a destination whose PAN id could be shared.
 fn unshared(w: usize) -> bool
-    ensures { λ r. ⌜ r ≡ cond (bit w 6) (eqb (bits w 10 2) 0) false ⌝ }
+    ensures { λ r. ⌜ r ≡ unshared w ⌝ }
 {
     if w / 64 % 2 == 1 {
         w / 1024 % 4 == 0
@@ -102,7 +95,7 @@ fn unshared(w: usize) -> bool
 
 // What stands behind a frame control that is known.
 fn measure_fields(s: &[u8], w: usize) -> Outcome
-    ensures { λ r. ⌜ r ≡ answered (fieldTests (now (s .entry)) w) (wholeEnd (now (s .entry)) w) ⌝ }
+    ensures { λ r. ⌜ r ≡ answered (fieldTests (now (s .entry)) w) (headerEnd (now (s .entry)) w) ⌝ }
 {
     if s.len() < destination_end(w) {
         return Outcome::refused(1);
@@ -110,11 +103,11 @@ fn measure_fields(s: &[u8], w: usize) -> Outcome
     if unshared(w) {
         return Outcome::refused(5);
     }
-    let at = addresses_end(w);
+    let at = source_end(w);
     if s.len() < at {
         return Outcome::refused(1);
     }
-    let end = whole_end(s, w, at);
+    let end = header_end(s, w, at);
     if s.len() < end {
         return Outcome::refused(1);
     }
@@ -123,7 +116,7 @@ fn measure_fields(s: &[u8], w: usize) -> Outcome
 
 // What reading the header at the beginning of a slice answers: 0 and its length, or the first refusal and 0.
 pub fn measure_header(s: &[u8]) -> Outcome
-    ensures { λ r. ⌜ r ≡ readOutcome (readHeader (now (s .entry))) ⌝ }
+    ensures { λ r. ⌜ r ≡ measured (now (s .entry)) ⌝ }
 {
     if s.len() < 3 {
         return Outcome::refused(1);

@@ -1,9 +1,0 @@
--- `header_measure::lacks_source` meets its contract: by the compression bit.
--- Assumes nothing.
-use borrow.Author.Tests.{eq-eqb, ne-eqb}
-use Rattle.header_measure.proofs.lacks_source.Statement.{statement}
-use Rattle.header_measure.proofs.lacks_source.Tie as tie
-
-pub lacks-source-spec : {M : Type 1} → statement M
-lacks-source-spec =
-    tie.close (tie.spec (λ c. simp (eq-eqb _ _ (c .if1 .taken))) (λ c. simp (ne-eqb _ _ (c .if1 .left))))
