@@ -1,12 +1,12 @@
 -- Where the parts of a header lie, by its frame control w, the number in bytes 0 and 1 (document 01, "Header layout";
--- IEEE 802.15.4-2011, 5.2.1): type bits 0-2, security 3, compression 6, destination mode 10-11, version 12-13, source
--- mode 14-15. Modes are numbers, 2 short and 3 extended.
+-- IEEE 802.15.4-2011, 5.2.1): security bit 3, compression 6, sequence suppression 8, destination mode bits 10-11,
+-- source mode 14-15. Modes are numbers, 2 short and 3 extended.
 use Rattle.octets.specs.Words.{ℕ, _+_, Bool, cond, not, _&&_, List, [], _∷_, ltb}
 use Rattle.octets.specs.{Bits.bits, Bits.bit, Bits.find, Little.number}
 
--- where the addresses begin: the sequence byte is always there
-abbrev pub start : ℕ → ℕ
-start w = 3
+-- where the addresses begin, by sequence suppression, bit 8, which alters nothing: the sequence byte is always there
+abbrev pub start : Bool → ℕ
+start suppressed = 3
 
 -- which PAN ids stand in the frame, by the two modes and compression: a destination's, and that of a source that does
 -- not share the destination's
@@ -26,7 +26,7 @@ addressSize mode = find ((2, 2) ∷ (3, 8) ∷ []) 0 (λ n. n) mode
 -- where destination and source end
 abbrev pub destinationEnd : ℕ → ℕ
 destinationEnd w =
-    start w + (panSize (ownDestination (bits w 10 2) (bits w 14 2) (bit w 6)) + addressSize (bits w 10 2))
+    start (bit w 8) + (panSize (ownDestination (bits w 10 2) (bits w 14 2) (bit w 6)) + addressSize (bits w 10 2))
 
 abbrev pub sourceEnd : ℕ → ℕ
 sourceEnd w =

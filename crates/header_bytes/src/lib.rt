@@ -1,7 +1,8 @@
 // The header at the beginning of a slice, by its bytes alone: its number and length, told by the bits of its frame
 // control. No record is made. What stands in specs/ is what records, measuring and the C entries share.
 ghost use Rattle.octets.specs.Words.{_+_, _≤_, _<_, not, _&&_, _≡_, ltb, eqb};
-ghost use Rattle.header_bytes.specs.Layout.{panSize, addressSize, securitySize};
+ghost use Rattle.octets.specs.Bits.{bits, bit};
+ghost use Rattle.header_bytes.specs.Layout.{ownDestination, ownSource, panSize, addressSize, securitySize};
 ghost use Rattle.header_bytes.specs.Layout.{destinationEnd, sourceEnd, headerEnd};
 ghost use Rattle.header_bytes.specs.Reading.{unshared, fieldTests, answered, measured};
 ghost use Rattle.header_bytes.specs.Rewriting.{sourceless};
@@ -26,8 +27,26 @@ fn address_size(compressed: usize, mode: usize) -> usize
     }
 }
 
+// The destination's PAN id stands in the frame, by a frame control.
+pub fn own_destination(w: usize) -> bool
+    ensures { λ r. ⌜ r ≡ ownDestination (bits w 10 2) (bits w 14 2) (bit w 6) ⌝ }
+{
+    1 < w / 1024 % 4
+}
+
+// The source's PAN id stands in the frame, by a frame control.
+pub fn own_source(w: usize) -> bool
+    ensures { λ r. ⌜ r ≡ ownSource (bits w 10 2) (bits w 14 2) (bit w 6) ⌝ }
+{
+    if w / 64 % 2 == 1 {
+        false
+    } else {
+        1 < w / 16384 % 4
+    }
+}
+
 // Where the destination ends by a frame control.
-fn destination_end(w: usize) -> usize
+pub fn destination_end(w: usize) -> usize
     ensures { λ r. ⌜ r ≡ destinationEnd w ⌝ }
     ensures { λ r. ⌜ r ≤ 13 ⌝ }
 {
