@@ -1,92 +1,56 @@
--- Reading a header, document 01: 1 below three bytes; 2; 3; 4 destination; 4 source; 1 destination; 5; 1 source; 1
--- security part. The frame control gives 2, 3 and 4; then come the sequence byte, always, the addresses, and the
--- security header.
-use Rattle.octets.specs.Words.{ℕ, _+_, Bool, true, false, cond, not, List, [], _∷_, ltb, length}
-use Rattle.octets.specs.{declared.Outcome.Outcome, Outcome.accepted, Outcome.refused, Order.first, Little.number}
-use Rattle.frame_control.specs.declared.{AddressMode.AddressMode, FrameControl.FrameControl}
-use Rattle.frame_control.specs.declared.{FrameControlRefusal.FrameControlRefusal}
-use Rattle.frame_control.specs.Control.{controlIn, control?}
+-- Reading a header: the first of document 01's refusals that holds (header_bytes/specs/Reading has the list, test by
+-- test), or the record of its fields. Behind the frame control come the sequence byte, always, the addresses, and the
+-- security header where the security bit announces one.
+use Rattle.octets.specs.Words.{ℕ, Bool, [], _∷_, map, List}
+use Rattle.octets.specs.{declared.Outcome.Outcome, Outcome.accepted, Outcome.refused, Order.first}
+use Rattle.octets.specs.{Bits.bits, Bits.bit, Bits.find, Little.number}
+use Rattle.header_bytes.specs.{Layout.start, Layout.ownDestination, Layout.ownSource}
+use Rattle.header_bytes.specs.{Layout.destinationEnd, Layout.sourceEnd, Layout.headerEnd, Reading.readTests}
+use Rattle.frame_control.specs.{Control.controlOf, Modes.modeIn}
 use Rattle.identifiers.specs.PanId.{pan}
 use Rattle.address.specs.declared.{OptionalAddress.OptionalAddress}
-use Rattle.address.specs.{Address.sharedPan, Layout.modeLength, Layout.addressIn}
-use Rattle.security.specs.declared.{OptionalSecurityHeader.OptionalSecurityHeader}
-use Rattle.security.specs.declared.{SecurityHeaderRead.SecurityHeaderRead}
-use Rattle.security.specs.declared.OptionalSecurityHeader.the-variants.{Absent, Present}
-use Rattle.security.specs.Answer.{readSecurity}
-use Rattle.header.specs.declared.{HeaderRefusal.HeaderRefusal, HeaderRead.HeaderRead, SecurityPart.SecurityPart}
+use Rattle.address.specs.{Address.sharedPan, Layout.addressIn}
+use Rattle.security.specs.Optional.{optionalIn}
+use Rattle.header.specs.declared.{Header.Header, HeaderRefusal.HeaderRefusal, HeaderRead.HeaderRead}
 use Rattle.header.specs.Record.{headerOf}
 use Rattle.header.specs.declared.HeaderRefusal.the-variants.{Ended, Version, FrameType, Compression}
 use Rattle.header.specs.declared.HeaderRefusal.the-variants.{AddressMode as Modes}
 use Rattle.header.specs.declared.HeaderRead.the-variants.{Read, Refused}
 
--- compression is set, and there is no destination whose PAN id a source could share
-abbrev pub unshared : Bool → AddressMode → Bool
-unshared false mode = false
-unshared true AddressMode.None = true
-unshared true AddressMode.Short = false
-unshared true AddressMode.Extended = false
+-- the addresses of a frame with the frame control w: a PAN id that does not stand in the frame is the destination's
+abbrev pub destinationIn : List ℕ → ℕ → OptionalAddress
+destinationIn s w =
+    addressIn (ownDestination (bits w 10 2) (bits w 14 2) (bit w 6)) (pan 0) (modeIn (bits w 10 2)) s (start (bit w 8))
 
--- where the addresses end, by the frame control
-abbrev pub destinationEnd : FrameControl → ℕ
-destinationEnd c = 3 + modeLength true (c .destination)
+abbrev pub sourceIn : List ℕ → ℕ → OptionalAddress
+sourceIn s w =
+    addressIn (ownSource (bits w 10 2) (bits w 14 2) (bit w 6)) (sharedPan (destinationIn s w)) (modeIn (bits w 14 2)) s
+    (destinationEnd w)
 
-abbrev pub sourceEnd : FrameControl → ℕ
-sourceEnd c = destinationEnd c + modeLength (not (c .«pan_id_compress»)) (c .source)
+-- the record of its fields
+abbrev pub headerIn : List ℕ → ℕ → Header
+headerIn s w =
+    headerOf (controlOf w) (number s 2 1) (destinationIn s w) (sourceIn s w) (optionalIn (bit w 3) s (sourceEnd w))
 
--- the addresses: the destination's PAN id is its own, the source's is shared under compression
-abbrev pub destinationIn : FrameControl → List ℕ → OptionalAddress
-destinationIn c s = addressIn true (pan 0) (c .destination) s 3
-
-abbrev pub sourceIn : FrameControl → List ℕ → OptionalAddress
-sourceIn c s = addressIn (not (c .«pan_id_compress»)) (sharedPan (destinationIn c s)) (c .source) s (destinationEnd c)
-
--- the security header at a place, where the security bit says that there is one, and the place behind it
-abbrev pub behindPlace : SecurityHeaderRead → ℕ → SecurityPart
-behindPlace SecurityHeaderRead.Ended at = SecurityPart.Ended
-behindPlace (SecurityHeaderRead.Read k n) at = SecurityPart.Read (Present k) (at + n)
-
-unfoldable pub securityPart : List ℕ → ℕ → Bool → SecurityPart
-securityPart s at on = cond on (behindPlace (readSecurity s at) at) (SecurityPart.Read Absent at)
-
-abbrev pub part? : {A : Type 0} → SecurityPart → A → (OptionalSecurityHeader → ℕ → A) → A
-part? SecurityPart.Ended other then = other
-part? (SecurityPart.Read k end) other then = then k end
-
--- the header, once the addresses are there
-unfoldable pub readRest : List ℕ → FrameControl → HeaderRead
-readRest s c =
-    part? (securityPart s (sourceEnd c) (c .security)) (Refused Ended) (λ security end.
-    Read (headerOf c (number s 2 1) (destinationIn c s) (sourceIn c s) security) end)
-
--- what follows a frame control that was read
-unfoldable pub readFields : List ℕ → FrameControl → HeaderRead
-readFields s c =
-    first
-    ((ltb (length s) (destinationEnd c), Refused Ended) ∷
-    (unshared (c .«pan_id_compress») (c .destination), Refused Compression) ∷
-    (ltb (length s) (sourceEnd c), Refused Ended) ∷
-    [])
-    (readRest s c)
-
--- the frame control's refusals among the header's
-abbrev pub refusalOf : FrameControlRefusal → HeaderRefusal
-refusalOf FrameControlRefusal.Version = Version
-refusalOf FrameControlRefusal.FrameType = FrameType
-refusalOf FrameControlRefusal.AddressMode = Modes
-
--- the header at the beginning of s
-unfoldable pub readHeader : List ℕ → HeaderRead
-readHeader s =
-    first ((ltb (length s) 3, Refused Ended) ∷ [])
-    (control? (controlIn (number s 0 2)) (λ refusal. Refused (refusalOf refusal)) (readFields s))
-
--- the refusal numbers of reading
+-- the refusals by their numbers
 abbrev pub readNumber : HeaderRefusal → ℕ
 readNumber Ended = 1
 readNumber Version = 2
 readNumber FrameType = 3
 readNumber Modes = 4
 readNumber Compression = 5
+
+abbrev pub refusalOf : ℕ → HeaderRefusal
+refusalOf n = find ((2, Version) ∷ (3, FrameType) ∷ (4, Modes) ∷ (5, Compression) ∷ []) Ended (λ refusal. refusal) n
+
+-- the header at the beginning of s, where its frame control is w
+unfoldable pub readBy : List ℕ → ℕ → HeaderRead
+readBy s w =
+    first (map (λ (test : Bool × ℕ). (test .0, Refused (refusalOf (test .1)))) (readTests s w))
+    (Read (headerIn s w) (headerEnd s w))
+
+abbrev pub readHeader : List ℕ → HeaderRead
+readHeader s = readBy s (number s 0 2)
 
 abbrev pub readOutcome : HeaderRead → Outcome
 readOutcome (Read h n) = accepted n

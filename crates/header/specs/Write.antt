@@ -1,13 +1,13 @@
 -- Writing a header, document 01: 8; 1 below three bytes of room; 6; 1 addresses; 7; 1 security part. The writer clears
 -- frame-control bits 7, 8 and 9, takes the key mode from the key identifier and the counter from the caller.
-use Rattle.octets.specs.Words.{ℕ, Bool, true, false, cond, not, List, [], _∷_, _++_, ltb}
+use Rattle.octets.specs.Words.{ℕ, Bool, true, false, not, _&&_, List, [], _∷_, _++_, ltb}
 use Rattle.octets.specs.{declared.Outcome.Outcome, Outcome.accepted, Outcome.refused, Order.first, Little.split}
 use Rattle.frame_control.specs.{declared.FrameControl.FrameControl, Control.controlBits}
 use Rattle.address.specs.{declared.OptionalAddress.OptionalAddress, Address.modeOf, Layout.addressBytes}
 use Rattle.security.specs.declared.{OptionalCounter.OptionalCounter}
-use Rattle.security.specs.Optional.{levelTooLarge, optionalBytes, missing}
+use Rattle.security.specs.Optional.{optionalTooLarge, optionalBytes, missing}
 use Rattle.header.specs.declared.{Header.Header, HeaderWritten.HeaderWritten}
-use Rattle.header.specs.Record.{secured, sourceOwn, addressesEnd, headerLength}
+use Rattle.header.specs.Record.{secured, ownsDestination, ownsSource, addressesEnd, headerLength}
 use Rattle.header.specs.declared.HeaderWritten.the-variants.{Written, TooLarge, Full, Compression, MissingCounter}
 
 -- refusal 6: compression set, either address missing
@@ -17,16 +17,16 @@ bothPresent (OptionalAddress.Present d) OptionalAddress.Absent = false
 bothPresent (OptionalAddress.Present d) (OptionalAddress.Present s) = true
 
 abbrev pub lacksAddress : Header → Bool
-lacksAddress h = cond (h .«pan_id_compress») (not (bothPresent (h .destination) (h .source))) false
+lacksAddress h = h .«pan_id_compress» && not (bothPresent (h .destination) (h .source))
 
 -- refusal 7: a secured record and no frame counter supplied
 abbrev pub lacksCounter : Header → OptionalCounter → Bool
-lacksCounter h counter = cond (secured h) (missing counter) false
+lacksCounter h counter = secured h && missing counter
 
 -- the refusals of writing into room bytes, in their order
 abbrev pub writeTests : Header → OptionalCounter → ℕ → List (Bool × HeaderWritten)
 writeTests h counter room =
-    (levelTooLarge (h .«auxiliary_security_header»), TooLarge) ∷
+    (optionalTooLarge (h .«auxiliary_security_header»), TooLarge) ∷
     (ltb room 3, Full) ∷
     (lacksAddress h, Compression) ∷
     (ltb room (addressesEnd h), Full) ∷
@@ -66,7 +66,7 @@ abbrev pub fixedBytes : Header → List ℕ
 fixedBytes h = split 2 (controlBits (writtenControl h)) ++ split 1 (h .seq)
 
 abbrev pub addressesBytes : Header → List ℕ
-addressesBytes h = addressBytes true (h .destination) ++ addressBytes (sourceOwn h) (h .source)
+addressesBytes h = addressBytes (ownsDestination h) (h .destination) ++ addressBytes (ownsSource h) (h .source)
 
 unfoldable pub headerBytes : Header → ℕ → List ℕ
 headerBytes h counter = fixedBytes h ++ (addressesBytes h ++ optionalBytes (h .«auxiliary_security_header») counter)

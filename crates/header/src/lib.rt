@@ -1,31 +1,31 @@
 // The header of a frame: read from any slice, written into any slice, its lengths.
-ghost use Rattle.octets.specs.Words.{_+_, _≤_, _≡_, length};
+ghost use Rattle.octets.specs.Words.{_+_, _-_, _≤_, min, _≡_, length, drop};
 ghost use Rattle.octets.specs.Buffer.{laid, after};
 ghost use Rattle.security.specs.Optional.{counterOf};
-ghost use Rattle.header.specs.Record.{secured, addressesEnd, headerLength, octetSize};
-ghost use Rattle.header.specs.Read.{unshared, destinationEnd, sourceEnd, securityPart, refusalOf};
-ghost use Rattle.header.specs.Read.{readRest, readFields, readHeader, readNumber, readOutcome};
+ghost use Rattle.header.specs.Record.{secured, ownsDestination, ownsSource};
+ghost use Rattle.header.specs.Record.{addressesEnd, headerLength, octetSize};
+ghost use Rattle.header.specs.Read.{headerIn, readNumber, refusalOf, readHeader, readOutcome};
 ghost use Rattle.header.specs.Write.{bothPresent, lacksAddress, lacksCounter, writeHeader, writtenOutcome};
 ghost use Rattle.header.specs.Write.{writtenControl, fixedBytes, addressesBytes, headerBytes};
 use address::OptionalAddress;
 use address::address_at;
-use address::mode_octets;
 use address::put_address;
-use frame_control::AddressMode;
 use frame_control::FrameControl;
-use frame_control::FrameControlRead;
-use frame_control::FrameControlRefusal;
 use frame_control::FrameType;
 use frame_control::FrameVersion;
+use header_bytes::destination_end;
+use header_bytes::measure_header;
+use header_bytes::own_destination;
+use header_bytes::own_source;
+use header_bytes::source_end;
 use identifiers::PanId;
 use octets::Outcome;
+use octets::left;
 use octets::put;
 use octets::u8_at;
 use octets::u16_at;
-use security::AuxiliarySecurityHeader;
 use security::OptionalCounter;
 use security::OptionalSecurityHeader;
-use security::SecurityHeaderRead;
 
 pub struct Header {
     pub frame_type: FrameType,
@@ -80,6 +80,19 @@ impl HeaderRefusal {
             HeaderRefusal::Compression => 5,
         }
     }
+
+    // The refusal of a number that reading refuses with.
+    fn of(number: u8) -> Self
+        ensures { λ r. ⌜ r ≡ refusalOf number ⌝ }
+    {
+        match number {
+            2 => HeaderRefusal::Version,
+            3 => HeaderRefusal::FrameType,
+            4 => HeaderRefusal::AddressMode,
+            5 => HeaderRefusal::Compression,
+            _ => HeaderRefusal::Ended,
+        }
+    }
 }
 
 // What writing answers: the length, or the first refusal of 8, 1 (below three bytes), 6, 1 (addresses), 7, 1 (security
@@ -106,115 +119,37 @@ impl HeaderWritten {
     }
 }
 
-// A security header, where the security bit announced one, and the place behind it.
-pub enum SecurityPart {
-    Ended,
-    Read(OptionalSecurityHeader, usize),
-}
-
-// The security part at a place, by the security bit. Asks that the place is within the slice.
-fn security_part(s: &[u8], at: usize, on: bool) -> SecurityPart
-    requires { ⌜ at ≤ length (now s) ⌝ }
-    ensures { λ r. ⌜ r ≡ securityPart (now (s .entry)) at on ⌝ }
+// The record of the fields of a slice, by its frame control.
+fn header_in(s: &[u8], w: u16) -> Header
+    ensures { λ r. ⌜ r ≡ headerIn (now (s .entry)) w ⌝ }
 {
-    if !on {
-        return SecurityPart::Read(OptionalSecurityHeader::Absent, at);
-    }
-    match AuxiliarySecurityHeader::read(s, at) {
-        SecurityHeaderRead::Ended => SecurityPart::Ended,
-        SecurityHeaderRead::Read(security, n) => {
-            SecurityPart::Read(OptionalSecurityHeader::Present(security), at + n)
-        }
-    }
-}
-
-// Compression without a destination whose PAN id could be shared.
-fn unshared(compress: bool, destination: AddressMode) -> bool
-    ensures { λ r. ⌜ r ≡ unshared compress destination ⌝ }
-{
-    if !compress {
-        return false;
-    }
-    match destination {
-        AddressMode::None => true,
-        AddressMode::Short => false,
-        AddressMode::Extended => false,
-    }
-}
-
-fn refusal_of(refusal: FrameControlRefusal) -> HeaderRefusal
-    ensures { λ r. ⌜ r ≡ refusalOf refusal ⌝ }
-{
-    match refusal {
-        FrameControlRefusal::Version => HeaderRefusal::Version,
-        FrameControlRefusal::FrameType => HeaderRefusal::FrameType,
-        FrameControlRefusal::AddressMode => HeaderRefusal::AddressMode,
-    }
-}
-
-// What stands behind the frame control, where the addresses are there, and the header made of it all.
-fn read_rest(s: &[u8], c: FrameControl, destination_end: usize, source_end: usize) -> HeaderRead
-    requires { ⌜ «destination_end» ≡ destinationEnd c ⌝ }
-    requires { ⌜ «source_end» ≡ sourceEnd c ⌝ }
-    requires { ⌜ sourceEnd c ≤ length (now s) ⌝ }
-    ensures { λ r. ⌜ r ≡ readRest (now (s .entry)) c ⌝ }
-{
-    let to = c.destination;
-    let from = c.source;
-    let seq = u8_at(s, 2);
-    let destination = address_at(s, 3, to, true, PanId(0));
-    let source = address_at(
+    let word = w as usize;
+    let control = FrameControl::of(w);
+    let to = control.destination;
+    let from = control.source;
+    let destination = address_at(s, 3, to, own_destination(word), PanId(0));
+    let shared = destination.shared_pan();
+    let source = address_at(s, destination_end(word), from, own_source(word), shared);
+    let auxiliary_security_header = OptionalSecurityHeader::at(
         s,
-        destination_end,
-        from,
-        !c.pan_id_compress,
-        destination.shared_pan(),
+        source_end(word),
+        control.security,
     );
-    let SecurityPart::Read(auxiliary_security_header, end) = security_part(
-        s,
-        source_end,
-        c.security,
-    ) else {
-        return HeaderRead::Refused(HeaderRefusal::Ended);
-    };
-    let frame_type = c.frame_type;
-    let version = c.version;
-    HeaderRead::Read(
-        Header {
-            frame_type,
-            frame_pending: c.frame_pending,
-            ack_request: c.ack_request,
-            pan_id_compress: c.pan_id_compress,
-            seq_no_suppress: c.seq_no_suppress,
-            ie_present: c.ie_present,
-            version,
-            seq,
-            destination,
-            source,
-            auxiliary_security_header,
-        },
-        end,
-    )
-}
-
-// What stands behind a frame control that was read.
-fn read_fields(s: &[u8], c: FrameControl) -> HeaderRead
-    ensures { λ r. ⌜ r ≡ readFields (now (s .entry)) c ⌝ }
-{
-    let to = c.destination;
-    let destination_end = 3 + mode_octets(to, true);
-    if s.len() < destination_end {
-        return HeaderRead::Refused(HeaderRefusal::Ended);
+    let frame_type = control.frame_type;
+    let version = control.version;
+    Header {
+        frame_type,
+        frame_pending: control.frame_pending,
+        ack_request: control.ack_request,
+        pan_id_compress: control.pan_id_compress,
+        seq_no_suppress: control.seq_no_suppress,
+        ie_present: control.ie_present,
+        version,
+        seq: u8_at(s, 2),
+        destination,
+        source,
+        auxiliary_security_header,
     }
-    if unshared(c.pan_id_compress, to) {
-        return HeaderRead::Refused(HeaderRefusal::Compression);
-    }
-    let from = c.source;
-    let source_end = destination_end + mode_octets(from, !c.pan_id_compress);
-    if s.len() < source_end {
-        return HeaderRead::Refused(HeaderRefusal::Ended);
-    }
-    read_rest(s, c, destination_end, source_end)
 }
 
 fn both_present(destination: OptionalAddress, source: OptionalAddress) -> bool
@@ -234,12 +169,21 @@ impl Header {
     pub fn read(s: &[u8]) -> HeaderRead
         ensures { λ r. ⌜ r ≡ readHeader (now (s .entry)) ⌝ }
     {
-        if s.len() < 3 {
-            return HeaderRead::Refused(HeaderRefusal::Ended);
+        let measured = measure_header(s);
+        if measured.number != 0 {
+            return HeaderRead::Refused(HeaderRefusal::of(measured.number));
         }
-        match FrameControl::from_bits(u16_at(s, 0)) {
-            FrameControlRead::Refused(refusal) => HeaderRead::Refused(refusal_of(refusal)),
-            FrameControlRead::Read(control) => read_fields(s, control),
+        HeaderRead::Read(header_in(s, u16_at(s, 0)), measured.length)
+    }
+
+    // Reads the header at a place of a slice.
+    pub fn read_at(s: &[u8], at: usize) -> HeaderRead
+        ensures { λ r. ⌜ r ≡ readHeader (drop at (now (s .entry))) ⌝ }
+    {
+        if at <= s.len() {
+            Header::read(&s[at..])
+        } else {
+            HeaderRead::Refused(HeaderRefusal::Ended)
         }
     }
 
@@ -261,13 +205,35 @@ impl Header {
         3 + destination.octets(true) + source.octets(true)
     }
 
+    // The destination's PAN id stands in the frame.
+    fn owns_destination(self) -> bool
+        ensures { λ r. ⌜ r ≡ ownsDestination self ⌝ }
+    {
+        let destination = self.destination;
+        let to = destination.mode();
+        1 < to.to_bits()
+    }
+
+    // The source's PAN id stands in the frame.
+    fn owns_source(self) -> bool
+        ensures { λ r. ⌜ r ≡ ownsSource self ⌝ }
+    {
+        let source = self.source;
+        if self.pan_id_compress {
+            return false;
+        }
+        let from = source.mode();
+        1 < from.to_bits()
+    }
+
+    // Where the addresses end.
     fn addresses_end(self) -> usize
         ensures { λ r. ⌜ r ≡ addressesEnd self ⌝ }
         ensures { λ r. ⌜ r ≤ 23 ⌝ }
     {
         let destination = self.destination;
         let source = self.source;
-        3 + destination.octets(true) + source.octets(!self.pan_id_compress)
+        3 + destination.octets(self.owns_destination()) + source.octets(self.owns_source())
     }
 
     // How many bytes the header really occupies in a frame.
@@ -352,50 +318,56 @@ impl Header {
         }
     }
 
-    // Stores frame control and sequence number at the beginning. Asks for their room.
-    fn put_fixed(self, out: &mut [u8])
-        requires { ⌜ 3 ≤ length (now out) ⌝ }
-        ensures { λ r. ⌜ now (out .exit) ≡ laid (now (out .entry)) 0 (fixedBytes self) ⌝ }
+    // Stores frame control and sequence number, as much as has room, and returns the place behind.
+    fn put_fixed(self, out: &mut [u8], at: usize) -> usize
+        ensures { λ r. ⌜ r ≡ at + min 3 (length (now (out .entry)) - at) ⌝ }
+        ensures { λ r. ⌜ now (out .exit) ≡ laid (now (out .entry)) at (fixedBytes self) ⌝ }
     {
         let control = self.written_control();
-        put(control.to_bits() as u64, 2, out, 0);
-        put(self.seq as u64, 1, out, 2);
+        let next = put(control.to_bits() as u64, 2, out, at);
+        put(self.seq as u64, 1, out, next)
     }
 
-    // Stores the addresses behind the sequence number and returns the place behind them. Asks for their room.
-    fn put_addresses(self, out: &mut [u8]) -> usize
-        requires { ⌜ addressesEnd self ≤ length (now out) ⌝ }
-        ensures { λ r. ⌜ r ≡ addressesEnd self ⌝ }
-        ensures { λ r. ⌜ now (out .exit) ≡ laid (now (out .entry)) 3 (addressesBytes self) ⌝ }
+    // Stores the addresses, as much as has room, and returns the place behind.
+    fn put_addresses(self, out: &mut [u8], at: usize) -> usize
+        ensures { λ r. ⌜ r ≡ at + min (length (addressesBytes self)) (length (now (out .entry)) - at) ⌝ }
+        ensures { λ r. ⌜ now (out .exit) ≡ laid (now (out .entry)) at (addressesBytes self) ⌝ }
     {
         let destination = self.destination;
         let source = self.source;
-        let next = put_address(destination, true, out, 3);
-        put_address(source, !self.pan_id_compress, out, next)
+        let next = put_address(destination, self.owns_destination(), out, at);
+        put_address(source, self.owns_source(), out, next)
     }
 
-    // Stores the whole header at the beginning. Asks for its room.
-    fn put(self, out: &mut [u8], counter: u32)
-        requires { ⌜ headerLength self ≤ length (now out) ⌝ }
-        ensures { λ r. ⌜ now (out .exit) ≡ laid (now (out .entry)) 0 (headerBytes self counter) ⌝ }
+    // Stores the whole header, as much as has room.
+    fn put(self, out: &mut [u8], at: usize, counter: u32)
+        ensures { λ r. ⌜ now (out .exit) ≡ laid (now (out .entry)) at (headerBytes self counter) ⌝ }
     {
-        self.put_fixed(out);
-        let at = self.put_addresses(out);
+        let next = self.put_fixed(out, at);
+        let next = self.put_addresses(out, next);
         let security = self.auxiliary_security_header;
-        security.put(out, at, counter);
+        security.put(out, next, counter);
     }
 
-    // Writes the header at the beginning of a slice, with the frame counter that the caller hands over where it is
-    // secured.
+    // Writes the header at a place of a slice, with the frame counter that the caller hands over where it is secured.
+    pub fn write_at(self, out: &mut [u8], at: usize, counter: OptionalCounter) -> HeaderWritten
+        ensures { λ r. ⌜ r ≡ writeHeader self counter (length (now (out .entry)) - at) ⌝ }
+        ensures { λ r. ⌜ now (out .exit) ≡
+            after (writtenOutcome r) (now (out .entry)) at (headerBytes self (counterOf counter)) ⌝ }
+    {
+        let answer = self.write_answer(counter, left(out, at));
+        if let HeaderWritten::Written(_) = answer {
+            self.put(out, at, counter.number());
+        }
+        answer
+    }
+
+    // Writes the header at the beginning of a slice, as `write_at` does.
     pub fn write(self, out: &mut [u8], counter: OptionalCounter) -> HeaderWritten
         ensures { λ r. ⌜ r ≡ writeHeader self counter (length (now (out .entry))) ⌝ }
         ensures { λ r. ⌜ now (out .exit) ≡
             after (writtenOutcome r) (now (out .entry)) 0 (headerBytes self (counterOf counter)) ⌝ }
     {
-        let answer = self.write_answer(counter, out.len());
-        if let HeaderWritten::Written(_) = answer {
-            self.put(out, counter.number());
-        }
-        answer
+        self.write_at(out, 0, counter)
     }
 }

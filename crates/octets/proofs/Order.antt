@@ -21,6 +21,13 @@ abbrev pub Fail : {A : Type 0} → List (Bool × A) → Type 0
 Fail [] = Unit
 Fail (test ∷ rest) = (test .0 ≡ false) × Fail rest
 
+-- no test holds, so the last one is given, whatever stands beside the tests
+pub none-first : {A B : Type 0} (f : A → B) (tests : List (Bool × A)) (other : B) → Fail tests →
+    first (map (λ (t : Bool × A). (t .0, f (t .1))) tests) other ≡ other
+none-first f [] other h = refl
+none-first f ((true, a) ∷ rest) other h = absurd (true≢false (h .0))
+none-first f ((false, a) ∷ rest) other h = none-first f rest other (h .1)
+
 pub none-holds : {A : Type 0} (accepts : A → Bool) (tests : List (Bool × A)) (other : A) → Refusing accepts tests →
     accepts (first tests other) ≡ true →
     Fail tests × (first tests other ≡ other)
