@@ -2,7 +2,7 @@
 -- Assumes nothing.
 use Prim.Native.Nat.{ℕ, _+_, _≤_}
 use native.Mathlib.Omega.{arith}
-use mathlib.Core.Bool.{Bool, true}
+use mathlib.Core.Bool.{Bool}
 use mathlib.Core.Path.{_≡_, refl, sym, ap, _∙_}
 use borrow.Author.Tests.{ltb-false}
 use lib.Dec.{eqb}
@@ -16,14 +16,14 @@ use Rattle.security.proofs.Security.{optional-length}
 use Rattle.header.specs.declared.Header.{Header}
 use Rattle.header.specs.declared.HeaderWritten.{HeaderWritten}
 use Rattle.header.specs.declared.HeaderWritten.the-variants.{Written}
-use Rattle.header.specs.Record.{sourceOwn, headerLength}
+use Rattle.header.specs.Record.{ownsDestination, ownsSource, headerLength}
 use Rattle.header.specs.Write.{writeTests, writeHeader, writtenOutcome, fixedBytes, addressesBytes, headerBytes}
 
 pub fixed-length : (h : Header) → length (fixedBytes h) ≡ 3
 fixed-length h = simp (length-append, split-length)
 
 pub addresses-length : (h : Header) →
-    length (addressesBytes h) ≡ addressLength true (h .destination) + addressLength (sourceOwn h) (h .source)
+    length (addressesBytes h) ≡ addressLength (ownsDestination h) (h .destination) + addressLength (ownsSource h) (h .source)
 addresses-length h = simp (length-append, address-length)
 
 pub header-length : (h : Header) (counter : ℕ) → length (headerBytes h counter) ≡ headerLength h

@@ -1,2 +1,3 @@
-pub mod Order
+pub mod Rewritten
 pub mod RoundTrip
+pub mod Told

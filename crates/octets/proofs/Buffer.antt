@@ -9,7 +9,7 @@ use mathlib.Core.Path.{_≡_, refl, sym, ap, _∙_}
 use borrow.Author.Tests.{leb-true, leb-false, eqb-true, eqb-false}
 use lib.Dec.{leb, eqb}
 use lib.ListN.{length, set, take, drop}
-use lib.Seq.{sets, sets-eq, length-sets}
+use lib.Seq.{sets, sets-eq, set-comm, set-set, length-sets}
 use Rattle.octets.specs.Little.{split}
 use Rattle.octets.specs.Buffer.{laid}
 use Rattle.octets.proofs.Cases.{cases, holds?}
@@ -84,6 +84,21 @@ pub laid-two : (l : List ℕ) (at n next : ℕ) (a b : List ℕ) {m r : List ℕ
     r ≡ laid m next b →
     r ≡ laid l at (a ++ b)
 laid-two l at n next a b long behind one two = rw (two, one) (laid-join l at next n a b long behind)
+
+-- storing the same bytes again changes nothing
+set-before : (l b : List ℕ) (i j x : ℕ) → i < j → set (sets l j b) i x ≡ sets (set l i x) j b
+set-before l [] i j x h = refl
+set-before l (y ∷ b) i j x h =
+    set-before (set l j y) b i (suc j) x (omega arith)
+    ∙ ap (λ (l : List ℕ). sets l (suc j) b) (set-comm l j i y x (λ e. omega arith))
+
+pub laid-again : (l : List ℕ) (at : ℕ) (b : List ℕ) → laid (laid l at b) at b ≡ laid l at b
+unfolding laid
+laid-again l at [] = refl
+laid-again l at (x ∷ b) =
+    ap (λ (l : List ℕ). sets l (suc at) b)
+    (set-before (set l at x) b at (suc at) x (omega arith) ∙ ap (λ (l : List ℕ). sets l (suc at) b) (set-set l at x x))
+    ∙ laid-again (set l at x) (suc at) b
 
 -- a store at a place parts the buffer: what lies before, what was stored, what lies behind
 pub laid-parts : (l : List ℕ) (at : ℕ) (b : List ℕ) → at + length b ≤ length l → laid l at b ≡ take at l ++ (b ++ drop (at + length b) l)

