@@ -1,7 +1,7 @@
 // An address with its PAN id, which may be absent: its mode, its length and its bytes, with the PAN id in the frame
-// (own) or shared. `address_at` and `put_address` are building blocks of the header's reader and writer, which measure
-// first: they ask for the bytes or the room.
-ghost use Rattle.octets.specs.Words.{_+_, _-_, _≤_, _++_, _≡_, length};
+// (own) or shared. Bytes past the end of a slice count as 0 in `address_at` and are dropped by `put_address`: the
+// header's reader and writer measure first.
+ghost use Rattle.octets.specs.Words.{_+_, _-_, _≤_, min, _++_, _≡_, length};
 ghost use Rattle.octets.specs.Buffer.{laid};
 ghost use Rattle.octets.specs.Little.{split};
 ghost use Rattle.address.specs.Address.{panOf, modeOfAddress, modeOf, sharedPan, broadcastOf};
@@ -11,6 +11,7 @@ use frame_control::AddressMode;
 use identifiers::ExtendedAddress;
 use identifiers::PanId;
 use identifiers::ShortAddress;
+use octets::behind;
 use octets::put;
 use octets::u16_at;
 use octets::u64_at;
@@ -112,15 +113,14 @@ pub fn mode_octets(mode: AddressMode, own: bool) -> usize
     }
 }
 
-// The PAN id at a place where it is in the frame, else the shared one. Asks for its bytes.
+// The PAN id at a place where it is in the frame, else the shared one.
 fn pan_at(s: &[u8], at: usize, own: bool, shared: PanId) -> PanId
-    requires { ⌜ at + panLength own ≤ length (now s) ⌝ }
     ensures { λ r. ⌜ r ≡ panIn own shared (now (s .entry)) at ⌝ }
 {
     if own { PanId(u16_at(s, at)) } else { shared }
 }
 
-// The address of a mode at a place. Asks that its bytes are there.
+// The address of a mode at a place, bytes past the end 0.
 pub fn address_at(
     s: &[u8],
     at: usize,
@@ -128,28 +128,26 @@ pub fn address_at(
     own: bool,
     shared: PanId,
 ) -> OptionalAddress
-    requires { ⌜ at + modeLength own mode ≤ length (now s) ⌝ }
     ensures { λ r. ⌜ r ≡ addressIn own shared mode (now (s .entry)) at ⌝ }
 {
     match mode {
         AddressMode::None => OptionalAddress::Absent,
         AddressMode::Short => {
             let pan_id = pan_at(s, at, own, shared);
-            let short = u16_at(s, at + pan_octets(own));
+            let short = u16_at(s, behind(s, at, pan_octets(own)));
             OptionalAddress::Present(Address::Short(pan_id, ShortAddress(short)))
         }
         AddressMode::Extended => {
             let pan_id = pan_at(s, at, own, shared);
-            let extended = u64_at(s, at + pan_octets(own));
+            let extended = u64_at(s, behind(s, at, pan_octets(own)));
             OptionalAddress::Present(Address::Extended(pan_id, ExtendedAddress(extended)))
         }
     }
 }
 
-// Stores a PAN id where it is in the frame, else nothing, and returns the place behind it. Asks for its room.
+// Stores a PAN id where it is in the frame, else nothing, as much as has room, and returns the place behind it.
 fn put_pan(pan_id: PanId, own: bool, out: &mut [u8], at: usize) -> usize
-    requires { ⌜ at + panLength own ≤ length (now out) ⌝ }
-    ensures { λ r. ⌜ r ≡ at + panLength own ⌝ }
+    ensures { λ r. ⌜ r ≡ at + min (panLength own) (length (now (out .entry)) - at) ⌝ }
     ensures { λ r. ⌜ now (out .exit) ≡ laid (now (out .entry)) at (panBytes own «pan_id») ⌝ }
 {
     if own {
@@ -159,21 +157,18 @@ fn put_pan(pan_id: PanId, own: bool, out: &mut [u8], at: usize) -> usize
     }
 }
 
-// Stores a PAN id, where it is in the frame, and then the n low bytes of v. Asks for their room.
+// Stores a PAN id, where it is in the frame, and then the n low bytes of v, as much as has room.
 fn put_pair(pan_id: PanId, own: bool, v: u64, n: usize, out: &mut [u8], at: usize) -> usize
-    requires { ⌜ n ≤ 8 ⌝ }
-    requires { ⌜ at + (panLength own + n) ≤ length (now out) ⌝ }
-    ensures { λ r. ⌜ r ≡ at + (panLength own + n) ⌝ }
+    ensures { λ r. ⌜ r ≡ at + min (panLength own + n) (length (now (out .entry)) - at) ⌝ }
     ensures { λ r. ⌜ now (out .exit) ≡ laid (now (out .entry)) at (panBytes own «pan_id» ++ split n v) ⌝ }
 {
     let next = put_pan(pan_id, own, out, at);
     put(v, n, out, next)
 }
 
-// Stores an address, or nothing, at a place and returns the place behind it. Asks for its room.
+// Stores an address, or nothing, at a place, as much as has room, and returns the place behind it.
 pub fn put_address(address: OptionalAddress, own: bool, out: &mut [u8], at: usize) -> usize
-    requires { ⌜ at + addressLength own address ≤ length (now out) ⌝ }
-    ensures { λ r. ⌜ r ≡ at + addressLength own address ⌝ }
+    ensures { λ r. ⌜ r ≡ at + min (addressLength own address) (length (now (out .entry)) - at) ⌝ }
     ensures { λ r. ⌜ now (out .exit) ≡ laid (now (out .entry)) at (addressBytes own address) ⌝ }
 {
     let OptionalAddress::Present(present) = address else {

@@ -1,8 +1,13 @@
 // The key identifier: an optional source and an index, announced by the key identifier mode of the security control.
-// Functions with a `requires` are building blocks of this project's readers and writers, which measure first.
-ghost use Rattle.octets.specs.Words.{_+_, _≤_, _≡_, length};
-ghost use Rattle.octets.specs.Buffer.{laid};
+// Bytes past the end of a slice count as 0 in `key_at` and are dropped by `put_key`: readers and writers measure first.
+ghost use Rattle.octets.specs.Words.{_+_, _-_, _≤_, min, _≡_, length};
+ghost use Rattle.octets.specs.Buffer.{laid, after};
+ghost use Rattle.octets.specs.Part.{writePart, partOutcome};
+ghost use Rattle.key_identifier.specs.declared.OptionalKeyIdentifier.the-variants.{Present};
 ghost use Rattle.key_identifier.specs.Key.{modeOfKey, keyLength, keyIn, sourceLength, sourceBytes, keyBytes};
+use octets::PartWritten;
+use octets::behind;
+use octets::left;
 use octets::put;
 use octets::u8_at;
 use octets::u32_at;
@@ -63,9 +68,8 @@ pub fn key_octets(mode: KeyIdentifierMode) -> usize
     }
 }
 
-// The key identifier of a mode at a place. Asks that its bytes are there.
+// The key identifier of a mode at a place, bytes past the end 0.
 pub fn key_at(s: &[u8], at: usize, mode: KeyIdentifierMode) -> OptionalKeyIdentifier
-    requires { ⌜ at + keyLength mode ≤ length (now s) ⌝ }
     ensures { λ r. ⌜ r ≡ keyIn mode (now (s .entry)) at ⌝ }
 {
     match mode {
@@ -76,19 +80,18 @@ pub fn key_at(s: &[u8], at: usize, mode: KeyIdentifierMode) -> OptionalKeyIdenti
         }),
         KeyIdentifierMode::KeySource4 => OptionalKeyIdentifier::Present(KeyIdentifier {
             key_source: OptionalKeySource::Present(KeySource::Short(u32_at(s, at))),
-            key_index: u8_at(s, at + 4),
+            key_index: u8_at(s, behind(s, at, 4)),
         }),
         KeyIdentifierMode::KeySource8 => OptionalKeyIdentifier::Present(KeyIdentifier {
             key_source: OptionalKeySource::Present(KeySource::Long(u64_at(s, at))),
-            key_index: u8_at(s, at + 8),
+            key_index: u8_at(s, behind(s, at, 8)),
         }),
     }
 }
 
-// Stores a key source, or nothing, at a place and returns the place behind it. Asks for its room.
+// Stores a key source, or nothing, at a place, as much as has room, and returns the place behind it.
 fn put_source(source: OptionalKeySource, out: &mut [u8], at: usize) -> usize
-    requires { ⌜ at + sourceLength source ≤ length (now out) ⌝ }
-    ensures { λ r. ⌜ r ≡ at + sourceLength source ⌝ }
+    ensures { λ r. ⌜ r ≡ at + min (sourceLength source) (length (now (out .entry)) - at) ⌝ }
     ensures { λ r. ⌜ now (out .exit) ≡ laid (now (out .entry)) at (sourceBytes source) ⌝ }
 {
     let OptionalKeySource::Present(present) = source else {
@@ -100,10 +103,9 @@ fn put_source(source: OptionalKeySource, out: &mut [u8], at: usize) -> usize
     }
 }
 
-// Stores a key identifier, or nothing, at a place and returns the place behind it. Asks for its room.
+// Stores a key identifier, or nothing, at a place, as much as has room, and returns the place behind it.
 pub fn put_key(key: OptionalKeyIdentifier, out: &mut [u8], at: usize) -> usize
-    requires { ⌜ at + keyLength (modeOfKey key) ≤ length (now out) ⌝ }
-    ensures { λ r. ⌜ r ≡ at + keyLength (modeOfKey key) ⌝ }
+    ensures { λ r. ⌜ r ≡ at + min (keyLength (modeOfKey key)) (length (now (out .entry)) - at) ⌝ }
     ensures { λ r. ⌜ now (out .exit) ≡ laid (now (out .entry)) at (keyBytes key) ⌝ }
 {
     let OptionalKeyIdentifier::Present(present) = key else {
@@ -112,4 +114,20 @@ pub fn put_key(key: OptionalKeyIdentifier, out: &mut [u8], at: usize) -> usize
     let source = present.key_source;
     let next = put_source(source, out, at);
     put(present.key_index as u64, 1, out, next)
+}
+
+impl KeyIdentifier {
+    // Writes it at a place: its source, if it has one, and its index; or nothing where they have no room.
+    pub fn write(self, out: &mut [u8], at: usize) -> PartWritten
+        ensures { λ r. ⌜ r ≡ writePart (now (out .entry)) at (keyLength (modeOfKey (Present self))) ⌝ }
+        ensures { λ r. ⌜ now (out .exit) ≡ after (partOutcome r) (now (out .entry)) at (keyBytes (Present self)) ⌝ }
+    {
+        let key = OptionalKeyIdentifier::Present(self);
+        let n = key_octets(key.mode());
+        if left(out, at) < n {
+            return PartWritten::Full;
+        }
+        put_key(key, out, at);
+        PartWritten::Written(n)
+    }
 }

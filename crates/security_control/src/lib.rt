@@ -3,8 +3,9 @@ ghost use Rattle.octets.specs.Words.{_≤_, _≡_};
 ghost use Rattle.octets.specs.Buffer.{after};
 ghost use Rattle.octets.specs.Little.{split};
 ghost use Rattle.octets.specs.Value.{writeValue, valueOutcome};
-ghost use Rattle.security_control.specs.Control.{keyModeOf, keyModeBits, controlOf, controlIn, controlBits};
-ghost use Rattle.security_control.specs.Control.{levelTooLarge, readControl, controlOutcome};
+ghost use Rattle.security_control.specs.Control.{keyModeOf, keyModeBits, securityControlOf, securityControlIn};
+ghost use Rattle.security_control.specs.Control.{securityControlBits, levelTooLarge, readSecurityControl};
+ghost use Rattle.security_control.specs.Control.{securityControlOutcome};
 use octets::Outcome;
 use octets::ValueWritten;
 use octets::left;
@@ -59,7 +60,7 @@ pub enum SecurityControlRead {
 
 impl SecurityControlRead {
     pub fn outcome(self) -> Outcome
-        ensures { λ r. ⌜ r ≡ controlOutcome self ⌝ }
+        ensures { λ r. ⌜ r ≡ securityControlOutcome self ⌝ }
     {
         match self {
             SecurityControlRead::Read(_) => Outcome::accepted(1),
@@ -71,7 +72,7 @@ impl SecurityControlRead {
 impl SecurityControl {
     // A level without a key identifier.
     pub fn new(security_level: u8) -> Self
-        ensures { λ r. ⌜ r ≡ controlOf «security_level» (keyModeOf 0) ⌝ }
+        ensures { λ r. ⌜ r ≡ securityControlOf «security_level» (keyModeOf 0) ⌝ }
     {
         SecurityControl {
             security_level,
@@ -81,7 +82,7 @@ impl SecurityControl {
 
     // What a byte says; its bits 5 to 7 are not looked at.
     pub fn from_bits(bits: u8) -> SecurityControl
-        ensures { λ r. ⌜ r ≡ controlIn bits ⌝ }
+        ensures { λ r. ⌜ r ≡ securityControlIn bits ⌝ }
     {
         let key_id_mode = KeyIdentifierMode::from_bits(bits / 8 % 4);
         SecurityControl {
@@ -92,7 +93,7 @@ impl SecurityControl {
 
     // The byte, of a level above 7 only its low three bits.
     pub fn to_bits(self) -> u8
-        ensures { λ r. ⌜ r ≡ controlBits self ⌝ }
+        ensures { λ r. ⌜ r ≡ securityControlBits self ⌝ }
         ensures { λ r. ⌜ r ≤ 31 ⌝ }
     {
         let key_id_mode = self.key_id_mode;
@@ -101,7 +102,7 @@ impl SecurityControl {
 
     // Reads the byte at a place.
     pub fn read(s: &[u8], at: usize) -> SecurityControlRead
-        ensures { λ r. ⌜ r ≡ readControl (now (s .entry)) at ⌝ }
+        ensures { λ r. ⌜ r ≡ readSecurityControl (now (s .entry)) at ⌝ }
     {
         if left(s, at) < 1 {
             return SecurityControlRead::Ended;
@@ -112,7 +113,8 @@ impl SecurityControl {
     // Writes the byte at a place. Refuses a level above 7, then a place without room.
     pub fn write(self, out: &mut [u8], at: usize) -> ValueWritten
         ensures { λ r. ⌜ r ≡ writeValue (levelTooLarge self) (now (out .entry)) at 1 ⌝ }
-        ensures { λ r. ⌜ now (out .exit) ≡ after (valueOutcome r) (now (out .entry)) at (split 1 (controlBits self)) ⌝ }
+        ensures { λ r. ⌜ now (out .exit) ≡
+            after (valueOutcome r) (now (out .entry)) at (split 1 (securityControlBits self)) ⌝ }
     {
         if 7 < self.security_level {
             return ValueWritten::TooLarge;

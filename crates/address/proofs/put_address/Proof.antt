@@ -1,31 +1,16 @@
 -- `address::put_address` meets its contract: an absent address stores nothing, a present one its pair.
 -- Assumes nothing.
-use mathlib.Core.Path.{ap, sym, _∙_}
+use mathlib.Core.Path.{sym}
 use native.Mathlib.Omega.{arith}
 use borrow.Author.Needs.{needs}
 use Rattle.octets.proofs.Buffer.{laid-none}
-use Rattle.address.specs.declared.OptionalAddress.the-variants.{Present}
-use Rattle.address.specs.Layout.{addressLength, addressBytes}
+use Rattle.address.specs.Layout.{addressBytes}
 use Rattle.address.proofs.put_address.Statement.{statement}
 use Rattle.address.proofs.put_address.Tie as tie
 
 absent : tie.Need-returns
 unfolding addressBytes
 absent c = rw (c .enum-told .given .1) (omega arith, sym (laid-none _ _))
-
-short-room : tie.Need-put-pair-requires
-short-room c κs =
-    let match = c .before .before .before in
-    let found = match .before .before .before in
-    let a = found .before .before .before .args in
-    omega (arith, ap (addressLength (a .own)) (found .address .given .1 ∙ ap Present (match .present .given .1)))
-
-extended-room : tie.Need-put-pair-requires-2
-extended-room c κs =
-    let match = c .before .before in
-    let found = match .before .before .before in
-    let a = found .before .before .before .args in
-    omega (arith, ap (addressLength (a .own)) (found .address .given .1 ∙ ap Present (match .present2 .given .1)))
 
 short-stored : tie.Need-returns-2
 unfolding addressBytes
@@ -44,6 +29,6 @@ extended-stored c =
 pub put-address-spec : {M : Type 1} → statement M
 put-address-spec =
     tie.close
-    (tie.spec (λ c. search needs) (λ c. search needs) absent (λ c. search needs) (λ c. search needs) short-room (λ c. search needs)
-    extended-room
+    (tie.spec (λ c. search needs) (λ c. search needs) absent (λ c. search needs) (λ c. search needs) (λ c κs. search needs)
+    (λ c. search needs) (λ c κs. search needs)
     (λ c. search needs) short-stored (λ c. search needs) extended-stored)

@@ -1,26 +1,14 @@
 -- `key_identifier::put_source` meets its contract: an absent source stores nothing, a present one its number.
 -- Assumes nothing.
-use mathlib.Core.Path.{ap, sym, _∙_}
+use mathlib.Core.Path.{sym}
 use native.Mathlib.Omega.{arith}
 use borrow.Author.Needs.{needs}
 use Rattle.octets.proofs.Buffer.{laid-none}
-use Rattle.key_identifier.specs.declared.OptionalKeySource.the-variants.{Present}
-use Rattle.key_identifier.specs.Key.{sourceLength}
 use Rattle.key_identifier.proofs.put_source.Statement.{statement}
 use Rattle.key_identifier.proofs.put_source.Tie as tie
 
 absent : tie.Need-returns
 absent c = rw (c .enum-told .given .1) (omega arith, sym (laid-none _ _))
-
-short-room : tie.Need-put-requires
-short-room c κs =
-    let match = c .before .before in
-    omega (arith, ap sourceLength (match .before .before .before .source .given .1 ∙ ap Present (match .present .given .1)))
-
-long-room : tie.Need-put-requires-2
-long-room c κs =
-    let match = c .before .before in
-    omega (arith, ap sourceLength (match .before .before .before .source .given .1 ∙ ap Present (match .present2 .given .1)))
 
 short-stored : tie.Need-returns-2
 short-stored c =
@@ -35,6 +23,6 @@ long-stored c =
 pub put-source-spec : {M : Type 1} → statement M
 put-source-spec =
     tie.close
-    (tie.spec (λ c. search needs) (λ c. search needs) absent (λ c. search needs) (λ c. search needs) short-room (λ c. search needs)
-    long-room
+    (tie.spec (λ c. search needs) (λ c. search needs) absent (λ c. search needs) (λ c. search needs) (λ c κs. search needs)
+    (λ c. search needs) (λ c κs. search needs)
     (λ c. search needs) short-stored (λ c. search needs) long-stored)

@@ -2,12 +2,12 @@
 -- Assumes nothing.
 use borrow.Author.Needs.{needs}
 use Rattle.octets.proofs.Part.{fewer, enough}
-use Rattle.security_control.specs.Control.{readControl}
+use Rattle.security_control.specs.Control.{readSecurityControl}
 use Rattle.security_control.proofs.SecurityControl.read.Statement.{statement}
 use Rattle.security_control.proofs.SecurityControl.read.Tie as tie
 
 pub read-spec : {M : Type 1} → statement M
-unfolding readControl
+unfolding readSecurityControl
 read-spec =
     tie.close
     (tie.spec (λ c κs. search needs)
