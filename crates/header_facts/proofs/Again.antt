@@ -1,37 +1,36 @@
 -- A header that was read, written again: the bytes that were read with the listed bits cleared.
 -- Assumes nothing.
 use Prim.Native.Nat.{ℕ, suc, _+_, _-_, _*_, _/_, _%_, _^_, _≤_, _<_}
-use native.Mathlib.Nat.{div-one, mul-one}
+use native.Mathlib.Nat.{div-one, mul-one, add-zero}
 use native.Mathlib.Omega.{arith}
-use mathlib.Core.Bool.{true, false, not}
+use mathlib.Core.Bool.{Bool, true, false, cond}
 use mathlib.Core.List.{List, [], _∷_, _++_, append-nil}
 use mathlib.Core.Path.{_≡_, sym, ap, _∙_}
 use lib.ListN.{length, getD, take, drop}
 use lib.Seq.{take-add, length-take-le}
-use Rattle.octets.specs.Bits.{clear, clearAt}
+use Rattle.octets.specs.Bits.{bits, bit, clear, clearAt}
 use Rattle.octets.specs.Little.{split, number, Bytes}
 use Rattle.octets.proofs.Bits.{clear-behind}
 use Rattle.octets.proofs.Little.{bytes-at, number-one, number-join, number-small}
-use Rattle.octets.proofs.Cases.{cases}
-use Rattle.frame_control.specs.declared.FrameControl.{FrameControl}
-use Rattle.frame_control.specs.Control.{controlBits, quietControl}
+use Rattle.octets.proofs.Cases.{cases, holds?}
+use Rattle.header_bytes.specs.Layout.{start, panSize, addressSize, securitySize, destinationEnd, sourceEnd}
+use Rattle.header_bytes.specs.Cleared.{headerCleared}
+use Rattle.header_bytes.proofs.Passed.{Passed}
+use Rattle.frame_control.specs.Control.{controlOf, controlBits, quietControl}
+use Rattle.frame_control.specs.Modes.{modeIn}
 use Rattle.frame_control.proofs.Control.{control-quiet}
 use Rattle.identifiers.specs.PanId.{pan}
-use Rattle.address.specs.Address.{modeOf, sharedPan}
-use Rattle.address.specs.Layout.{modeLength}
-use Rattle.address.proofs.Addresses.{address-again, address-mode}
-use Rattle.security.specs.declared.OptionalSecurityHeader.{OptionalSecurityHeader}
-use Rattle.security.specs.Optional.{isPresent, optionalLength, optionalBytes, counterOf, counterRead}
-use Rattle.security.specs.Security.{lengthIn}
-use Rattle.security.proofs.Security.{security-length}
-use Rattle.security.proofs.RoundTrip.{round-trip}
+use Rattle.address.specs.Address.{sharedPan}
+use Rattle.address.specs.Layout.{addressBytes}
+use Rattle.address.proofs.Addresses.{address-again}
+use Rattle.security.specs.Optional.{optionalIn, optionalBytes, counterOf, counterRead}
+use Rattle.security.proofs.Security.{security-again}
 use Rattle.header.specs.declared.Header.{Header}
-use Rattle.header.specs.Record.{addressesEnd, headerLength}
-use Rattle.header.specs.Read.{destinationEnd, sourceEnd, destinationIn}
+use Rattle.header.specs.Read.{destinationIn, headerIn}
 use Rattle.header.specs.Write.{writtenControl, fixedBytes, addressesBytes, headerBytes}
-use Rattle.header.proofs.Apart.{Stages, headerIn}
-use Rattle.header.proofs.Bounds.{security-found}
-use Rattle.header_facts.specs.RoundTrip.{rewritten, clearControl, cleared}
+use Rattle.header_facts.specs.Rewritten.{rewritten}
+use Rattle.header_facts.proofs.Fields.{ownTo, ownFrom, known, to-mode, from-mode, owns-to, owns-from, destination-size, source-size}
+use Rattle.header_facts.proofs.Fields.{part-present, part-whole, security-size}
 
 -- the two bytes of a frame control without its bits 7, 8 and 9
 low-byte : (a b x y : ℕ) → a < 256 → x * 128 ≤ a → y ≤ b → ((a + 256 * b) - (x + 2 * y) * 128) % 256 ≡ a - x * 128
@@ -88,92 +87,108 @@ spliced-present (x ∷ y ∷ z ∷ rest) a b m h =
     (ap (λ (l : List ℕ). clear 7 1 x ∷ clear 0 2 y ∷ z ∷ l)
     (sym (rw (take-add (a + b) m rest) (clear-behind (take (a + b) rest) (take m (drop (a + b) rest)) (a + b) 5 3 l))))
 
-module _ (s : List ℕ) (c : FrameControl) (k : OptionalSecurityHeader) (n : ℕ) (b : Bytes s) (q : Stages s c k n) where
+module _ (s : List ℕ) (b : Bytes s) (p : Passed s (number s 0 2)) where
+  abbrev w : ℕ
+  w = number s 0 2
+
   abbrev header : Header
-  header = headerIn s c k
+  header = headerIn s w
+
+  abbrev own-to : Bool
+  own-to = ownTo s p
+
+  abbrev own-from : Bool
+  own-from = ownFrom s p
 
   abbrev to : ℕ
-  to = modeLength true (c .destination)
+  to = panSize own-to + addressSize (bits w 10 2)
 
   abbrev from : ℕ
-  from = modeLength (not (c .«pan_id_compress»)) (c .source)
+  from = panSize own-from + addressSize (bits w 14 2)
 
-  pub to-mode : modeOf (header .destination) ≡ c .destination
-  to-mode = address-mode true (pan 0) (c .destination) s 3
-
-  pub from-mode : modeOf (header .source) ≡ c .source
-  from-mode = address-mode (not (c .«pan_id_compress»)) (sharedPan (destinationIn c s)) (c .source) s (destinationEnd c)
-
-  pub addresses-end : addressesEnd header ≡ sourceEnd c
-  addresses-end = λ i. 3 + modeLength true (to-mode i) + modeLength (not (c .«pan_id_compress»)) (from-mode i)
-
-  pub secured-bit : isPresent k ≡ c .security
-  secured-bit =
-      cases (security-found s (sourceEnd c) (c .security) k n (q .security))
-      (λ none. ap isPresent (none .1) ∙ sym (none .0))
-      (λ found. ap isPresent (found .1 .is) ∙ sym (found .0))
-
-  control-written : writtenControl header ≡ quietControl c
+  control-written : writtenControl header ≡ quietControl (controlOf w)
   control-written =
       λ i. record {
-        «frame_type» = c .«frame_type»;
-        security = secured-bit i;
-        «frame_pending» = c .«frame_pending»;
-        «ack_request» = c .«ack_request»;
-        «pan_id_compress» = c .«pan_id_compress»;
+        «frame_type» = controlOf w .«frame_type»;
+        security = part-present (bit w 3) s (sourceEnd w) i;
+        «frame_pending» = controlOf w .«frame_pending»;
+        «ack_request» = controlOf w .«ack_request»;
+        «pan_id_compress» = controlOf w .«pan_id_compress»;
         «seq_no_suppress» = false;
         «ie_present» = false;
-        destination = to-mode i;
-        version = c .version;
-        source = from-mode i;
+        destination = to-mode s p i;
+        version = controlOf w .version;
+        source = from-mode s p i;
       }
 
-  word : number s 0 2 ≡ getD s 0 0 + 256 * getD s 1 0
-  word = number-join s 0 1 1 (omega (arith, q .three)) ∙ (λ i. number-one s 0 i + 256 * number-one s 1 i)
+  word : w ≡ getD s 0 0 + 256 * getD s 1 0
+  word = number-join s 0 1 1 ∙ (λ i. number-one s 0 i + 256 * number-one s 1 i)
 
   fixed-written : fixedBytes header ≡ clear 7 1 (getD s 0 0) ∷ clear 0 2 (getD s 1 0) ∷ getD s 2 0 ∷ []
   fixed-written =
-      let small : number s 0 2 < 256 ^ 2 = number-small s 0 2 b (omega (arith, q .three)) in
+      let small : w < 256 ^ 2 = number-small s 0 2 b (omega (arith, p .three)) in
       let both : split 2 (controlBits (writtenControl header)) ≡ clear 7 1 (getD s 0 0) ∷ clear 0 2 (getD s 1 0) ∷ [] =
-      ap (split 2) (ap controlBits control-written ∙ control-quiet (number s 0 2) c small (q .control) ∙ ap (clear 7 3) word)
+      ap (split 2) (ap controlBits control-written ∙ control-quiet w (known s p) small ∙ ap (clear 7 3) word)
       ∙ word-bytes (getD s 0 0) (getD s 1 0) (bytes-at s 0 b) (bytes-at s 1 b) in
       let third : split 1 (number s 2 1) ≡ getD s 2 0 ∷ [] = ap (split 1) (number-one s 2) ∙ one-byte (getD s 2 0) (bytes-at s 2 b) in
       λ i. both i ++ third i
 
+  destination-written : addressBytes own-to (header .destination) ≡ take to (drop 3 s)
+  destination-written =
+      let size = destination-size s p in
+      address-again own-to (pan 0) (modeIn (bits w 10 2)) s (start (bit w 8)) b (omega (arith, p .addresses, size))
+      ∙ ap (λ (n : ℕ). take n (drop 3 s)) size
+
+  source-written : addressBytes own-from (header .source) ≡ take from (drop (3 + to) s)
+  source-written =
+      let size = source-size s p in
+      address-again own-from (sharedPan (destinationIn s w)) (modeIn (bits w 14 2)) s (destinationEnd w) b (omega (arith, p .addresses, size))
+      ∙ ap (λ (n : ℕ). take n (drop (3 + to) s)) size
+
   addresses-written : addressesBytes header ≡ take to (drop 3 s) ++ take from (drop (3 + to) s)
   addresses-written =
-      let room = q .addresses in
-      λ i. address-again true (pan 0) (c .destination) s 3 b (omega arith) i
-      ++ address-again (not (c .«pan_id_compress»)) (sharedPan (destinationIn c s)) (c .source) s (destinationEnd c) b (omega arith) i
+      (λ i. addressBytes (owns-to s p i) (header .destination) ++ addressBytes (owns-from s p i) (header .source))
+      ∙ (λ i. destination-written i ++ source-written i)
 
   -- with the security part, by cases
-  pub length-again : headerLength header ≡ n
-  length-again =
-      cases (security-found s (sourceEnd c) (c .security) k n (q .security))
-      (λ none. (λ i. addresses-end i + optionalLength (none .1 i)) ∙ omega (arith, none .2))
-      (λ found.
-      let x = found .1 in
-      let trip = round-trip s (sourceEnd c) (x .header) (lengthIn s (sourceEnd c)) b (x .read) in
-      (λ i. addresses-end i + optionalLength (x .is i))
-      ∙ ap (λ (m : ℕ). sourceEnd c + m) (sym (security-length (x .header) (x .header .«frame_counter»)) ∙ trip .long)
-      ∙ sym (x .ends))
+  abbrev secured-bytes : Bool → List ℕ
+  secured-bytes on =
+      let k = optionalIn on s (sourceEnd w) in
+      optionalBytes k (counterOf (counterRead k))
 
-  pub header-again : rewritten header ≡ cleared header s
+  abbrev cleared-bytes : Bool → List ℕ
+  cleared-bytes on =
+      let l = take (cond on (sourceEnd w + securitySize (bits (number s (sourceEnd w) 1) 3 2)) (sourceEnd w)) s in
+      cond on (clearAt (sourceEnd w) 5 3 (clearAt 1 0 2 (clearAt 0 7 1 l))) (clearAt 1 0 2 (clearAt 0 7 1 l))
+
+  parts : rewritten header
+      ≡ (clear 7 1 (getD s 0 0) ∷ clear 0 2 (getD s 1 0) ∷ getD s 2 0 ∷ [])
+      ++ ((take to (drop 3 s) ++ take from (drop (3 + to) s)) ++ secured-bytes (bit w 3))
   unfolding headerBytes
-  header-again =
-      cases (security-found s (sourceEnd c) (c .security) k n (q .security))
-      (λ none.
-      (λ i. fixed-written i ++ (addresses-written i ++ optionalBytes (none .1 i) (counterOf (counterRead (none .1 i)))))
-      ∙ spliced-absent s to from (q .addresses)
-      ∙ sym (λ i. clearControl (none .1 i) (addressesEnd header)
-      (clearAt 1 0 2 (clearAt 0 7 1 (take (addresses-end i + optionalLength (none .1 i)) s)))))
-      (λ found.
-      let x = found .1 in
-      let trip = round-trip s (sourceEnd c) (x .header) (lengthIn s (sourceEnd c)) b (x .read) in
-      let long : optionalLength k ≡ lengthIn s (sourceEnd c) =
-      ap optionalLength (x .is) ∙ sym (security-length (x .header) (x .header .«frame_counter»)) ∙ trip .long in
-      (λ i. fixed-written i ++ (addresses-written i ++ optionalBytes (x .is i) (counterOf (counterRead (x .is i)))))
-      ∙ ap (λ (l : List ℕ). (clear 7 1 (getD s 0 0) ∷ clear 0 2 (getD s 1 0) ∷ getD s 2 0 ∷ [])
-      ++ ((take to (drop 3 s) ++ take from (drop (3 + to) s)) ++ l)) (trip .written)
-      ∙ spliced-present s to from (lengthIn s (sourceEnd c)) (x .whole)
-      ∙ sym (λ i. clearControl (x .is i) (addresses-end i) (clearAt 1 0 2 (clearAt 0 7 1 (take (addresses-end i + long i) s)))))
+  parts = λ i. fixed-written i ++ (addresses-written i ++ secured-bytes (bit w 3))
+
+  whole : rewritten header ≡ cleared-bytes (bit w 3)
+  whole =
+      let addresses = p .addresses in
+      let front : List ℕ = clear 7 1 (getD s 0 0) ∷ clear 0 2 (getD s 1 0) ∷ getD s 2 0 ∷ [] in
+      let middle : List ℕ = take to (drop 3 s) ++ take from (drop (3 + to) s) in
+      cases (holds? (bit w 3))
+      (λ on.
+      let there = part-whole s p on in
+      let size = security-size s (sourceEnd w) in
+      parts
+      ∙ ap (λ (on : Bool). front ++ (middle ++ secured-bytes on)) on
+      ∙ ap (λ (l : List ℕ). front ++ (middle ++ l)) (security-again s (sourceEnd w) b there)
+      ∙ ap (λ (n : ℕ). front ++ (middle ++ clearAt 0 5 3 (take n (drop (sourceEnd w) s)))) size
+      ∙ spliced-present s to from (securitySize (bits (number s (sourceEnd w) 1) 3 2)) (omega (arith, size))
+      ∙ ap cleared-bytes (sym on))
+      (λ off.
+      parts
+      ∙ ap (λ (on : Bool). front ++ (middle ++ secured-bytes on)) off
+      ∙ spliced-absent s to from (omega arith)
+      ∙ ap (λ (n : ℕ). clearAt 1 0 2 (clearAt 0 7 1 (take n s))) (add-zero (sourceEnd w))
+      ∙ ap cleared-bytes (sym off))
+
+  pub header-again : rewritten header ≡ headerCleared s
+  unfolding headerCleared
+  header-again = whole
