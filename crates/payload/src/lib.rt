@@ -3,6 +3,7 @@
 ghost use Rattle.octets.specs.Words.{_≤_, _≡_, length};
 ghost use Rattle.beacon.specs.Beacon.{readBeacon};
 ghost use Rattle.payload.specs.Frame.{opens, unread, frameOf, frameBehind, readFrame, payloadOf};
+ghost use Rattle.payload.specs.Place.{begins};
 use beacon::Beacon;
 use beacon::BeaconRead;
 use header::Header;
@@ -83,6 +84,7 @@ pub fn read(frame: &[u8]) -> FrameRead
 // frame its empty beginning.
 pub fn payload<'a>(frame: &'a [u8], number: &mut u8) -> &'a [u8]
     ensures { λ r. ⌜ now r ≡ payloadOf (readFrame (now (frame .entry)) .outcome) (now (frame .entry)) ⌝ }
+    ensures { λ r. ⌜ begins r (frame .entry) (readFrame (now (frame .entry)) .outcome .length) ⌝ }
     ensures { λ r. ⌜ now (number .exit) ≡ readFrame (now (frame .entry)) .outcome .number ⌝ }
 {
     let view = read(frame);
@@ -92,6 +94,6 @@ pub fn payload<'a>(frame: &'a [u8], number: &mut u8) -> &'a [u8]
         let start = outcome.length;
         &frame[start..]
     } else {
-        &frame[..0]
+        &frame[0..0]
     }
 }
