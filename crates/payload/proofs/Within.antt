@@ -16,7 +16,7 @@ use Rattle.header.specs.Read.{readHeader}
 use Rattle.header.proofs.Bounds.{length-bounds, refusal-some}
 use Rattle.beacon.specs.Beacon.{readBeacon}
 use Rattle.beacon_facts.proofs.Beacon.{beacon-read, all-found}
-use Rattle.payload.specs.Frame.{opens, behindBeacon, frameAfter, readFrame}
+use Rattle.payload.specs.Frame.{unsecuredBeacon, behindBeacon, frameAfter, readFrame}
 
 -- a beacon that is read lies whole in the input
 pub beacon-within : (s : List ℕ) (at : ℕ) → readBeacon s at .outcome .number ≡ 0 → readBeacon s at .outcome .length ≤ length s - at
@@ -36,7 +36,7 @@ after-within : (s : List ℕ) (r : HeaderRead) → readHeader s ≡ r → frameA
 after-within s (Refused r) e f = absurd (refusal-some r f)
 after-within s (Read h n) e f =
     let within = length-bounds s h n e .2 in
-    cases (holds? (opens h))
+    cases (holds? (unsecuredBeacon h))
     (λ t. simp t (behind-within s n within (simp t at f)))
     (λ t. simp t within)
 
@@ -51,7 +51,7 @@ behind-refused at o f = cases (holds? (eqb (o .number) 0)) (λ t. absurd (f (sim
 after-refused : (s : List ℕ) (r : HeaderRead) → (frameAfter s r .outcome .number ≡ 0 → ⊥) → frameAfter s r .outcome .length ≡ 0
 after-refused s (Refused r) f = refl
 after-refused s (Read h n) f =
-    cases (holds? (opens h))
+    cases (holds? (unsecuredBeacon h))
     (λ t. simp t (behind-refused n (readBeacon s n .outcome) (λ e. f (simp t e))))
     (λ t. absurd (f (simp t)))
 
