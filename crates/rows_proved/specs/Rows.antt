@@ -90,8 +90,8 @@ seen (header? s) = headerSeen (readHeader s)
 seen (beacon? s) = beaconSeen (readBeacon s 0)
 seen (slots? s) = slotsSeen (readTimeSlots s 0)
 
--- the headers of the rows: version 0, no pending data and no acknowledgement asked for; compression; bits 8 and 9, both
--- or neither
+-- the headers of the rows: version 0, no pending data and no acknowledgement asked for; compressed or not; flagged, by
+-- bits 8 and 9 both, or by neither
 abbrev pub headerWith : FrameType → (compressed flagged : Bool) → ℕ → (destination source : OptionalAddress) →
     OptionalSecurityHeader → Header
 headerWith kind compressed flagged seq destination source security =
