@@ -12,34 +12,45 @@ use Rattle.header.specs.Read.{readHeader, readNumber}
 use Rattle.header.specs.declared.HeaderRead.the-variants.{Read, Refused}
 use Rattle.beacon.specs.declared.{BeaconRead.BeaconRead}
 use Rattle.beacon.specs.Beacon.{emptyBeacon, readBeacon}
-use Rattle.payload.specs.declared.{FrameRead.FrameRead}
+use Rattle.payload.specs.declared.{BeaconAnswer.BeaconAnswer, FrameRead.FrameRead}
 
--- an unsecured frame of type 0
-abbrev pub opens : Header → Bool
-opens h = cond (secured h) false (eqb (typeBits (h .«frame_type»)) 0)
+-- "an unsecured Beacon": its type is 0
+abbrev pub unsecuredBeacon : Header → Bool
+unsecuredBeacon h = cond (secured h) false (eqb (typeBits (h .«frame_type»)) 0)
 
--- no beacon was looked at
-abbrev pub unread : BeaconRead
-unread = record { outcome = accepted 0; beacon = emptyBeacon }
+-- a frame whose beacon is not looked at: that is its answer, neither accepted nor refused
+abbrev pub withoutBeacon : Outcome → HeaderRead → FrameRead
+withoutBeacon outcome header =
+    record { outcome = outcome; header = header; «beacon_answer» = BeaconAnswer.NotLookedAt; beacon = emptyBeacon }
 
-abbrev pub frameOf : Outcome → HeaderRead → BeaconRead → FrameRead
-frameOf outcome header beacon = record { outcome = outcome; header = header; beacon = beacon }
+-- what a beacon that is looked at answers: 0 and its length, or its refusal number
+abbrev pub answerOf : Outcome → BeaconAnswer
+answerOf o = cond (eqb (o .number) 0) (BeaconAnswer.Accepted (o .length)) (BeaconAnswer.Refused (o .number))
 
--- a beacon at a place: behind it the payload begins, or its refusal is the frame's
+-- where the payload begins behind a beacon at a place; the refusal of the beacon is the frame's
 abbrev pub behindBeacon : ℕ → Outcome → Outcome
 behindBeacon at o = cond (eqb (o .number) 0) (accepted (at + o .length)) (refused (o .number))
 
-abbrev pub frameBehind : BeaconRead → HeaderRead → ℕ → FrameRead
-frameBehind beacon header at = frameOf (behindBeacon at (beacon .outcome)) header beacon
+-- a frame whose beacon, at a place, is looked at
+abbrev pub withBeacon : HeaderRead → ℕ → BeaconRead → FrameRead
+withBeacon header at read =
+    record {
+      outcome = behindBeacon at (read .outcome);
+      header = header;
+      «beacon_answer» = answerOf (read .outcome);
+      beacon = read .beacon;
+    }
 
+-- "reads a header and, for an unsecured Beacon, the beacon": that of a header of n bytes stands at n; where none is
+-- looked at, the payload begins there
 abbrev pub frameAfter : List ℕ → HeaderRead → FrameRead
-frameAfter s (Refused r) = frameOf (refused (readNumber r)) (Refused r) unread
+frameAfter s (Refused r) = withoutBeacon (refused (readNumber r)) (Refused r)
 frameAfter s (Read h n) =
-    cond (opens h) (frameBehind (readBeacon s n) (Read h n) n) (frameOf (accepted n) (Read h n) unread)
+    cond (unsecuredBeacon h) (withBeacon (Read h n) n (readBeacon s n)) (withoutBeacon (accepted n) (Read h n))
 
 unfoldable pub readFrame : List ℕ → FrameRead
 readFrame s = frameAfter s (readHeader s)
 
--- what is left of the input, nothing of a refused frame
+-- the bytes of "the rest of the caller's slice", and on refusal none
 abbrev pub payloadOf : Outcome → List ℕ → List ℕ
 payloadOf o s = cond (eqb (o .number) 0) (drop (o .length) s) []

@@ -2,24 +2,33 @@
 // own slice.
 ghost use Rattle.octets.specs.Words.{_≤_, _≡_, length};
 ghost use Rattle.beacon.specs.Beacon.{readBeacon};
-ghost use Rattle.payload.specs.Frame.{opens, unread, frameOf, frameBehind, readFrame, payloadOf};
+ghost use Rattle.payload.specs.Frame.{unsecuredBeacon, withoutBeacon, withBeacon, readFrame, payloadOf};
+ghost use Rattle.payload.specs.Place.{begins};
 use beacon::Beacon;
-use beacon::BeaconRead;
 use header::Header;
 use header::HeaderRead;
 use octets::Outcome;
 
-// What a frame says. The outcome's length is the place where the payload begins; the beacon is looked at only in an
-// unsecured beacon frame, and is the empty one of length 0 in any other.
+// What came of the beacon that a frame may hold. It is looked at only in an unsecured beacon frame whose header is
+// accepted; then it is accepted, with its length, or refused, with the number.
+pub enum BeaconAnswer {
+    NotLookedAt,
+    Accepted(usize),
+    Refused(u8),
+}
+
+// What a frame says. The outcome's length is the place where the payload begins. The beacon is the empty one where none
+// was accepted.
 pub struct FrameRead {
     pub outcome: Outcome,
     pub header: HeaderRead,
-    pub beacon: BeaconRead,
+    pub beacon_answer: BeaconAnswer,
+    pub beacon: Beacon,
 }
 
-// An unsecured beacon frame.
-fn opens(header: Header) -> bool
-    ensures { λ r. ⌜ r ≡ opens header ⌝ }
+// Whether a header is that of an unsecured beacon frame.
+fn unsecured_beacon(header: Header) -> bool
+    ensures { λ r. ⌜ r ≡ unsecuredBeacon header ⌝ }
 {
     if header.has_security() {
         return false;
@@ -31,36 +40,36 @@ fn opens(header: Header) -> bool
 // The beacon that stands in front of the payload, and where the payload begins or why it does not.
 fn with_beacon(frame: &[u8], header: HeaderRead, at: usize) -> FrameRead
     requires { ⌜ at ≤ length (now frame) ⌝ }
-    ensures { λ r. ⌜ r ≡ frameBehind (readBeacon (now (frame .entry)) at) header at ⌝ }
+    ensures { λ r. ⌜ r ≡ withBeacon header at (readBeacon (now (frame .entry)) at) ⌝ }
 {
-    let beacon = Beacon::read(frame, at);
-    let read = beacon.outcome;
-    if read.number == 0 {
+    let read = Beacon::read(frame, at);
+    let outcome = read.outcome;
+    let beacon = read.beacon;
+    if outcome.number == 0 {
         return FrameRead {
-            outcome: Outcome::accepted(at + read.length),
+            outcome: Outcome::accepted(at + outcome.length),
             header,
+            beacon_answer: BeaconAnswer::Accepted(outcome.length),
             beacon,
         };
     }
     FrameRead {
-        outcome: Outcome::refused(read.number),
+        outcome: Outcome::refused(outcome.number),
         header,
+        beacon_answer: BeaconAnswer::Refused(outcome.number),
         beacon,
     }
 }
 
 // A frame whose beacon is not looked at.
 fn without_beacon(outcome: Outcome, header: HeaderRead) -> FrameRead
-    ensures { λ r. ⌜ r ≡ frameOf outcome header unread ⌝ }
+    ensures { λ r. ⌜ r ≡ withoutBeacon outcome header ⌝ }
 {
-    let empty = Beacon::new();
-    let beacon = BeaconRead {
-        outcome: Outcome::accepted(0),
-        beacon: empty,
-    };
+    let beacon = Beacon::new();
     FrameRead {
         outcome,
         header,
+        beacon_answer: BeaconAnswer::NotLookedAt,
         beacon,
     }
 }
@@ -73,7 +82,7 @@ pub fn read(frame: &[u8]) -> FrameRead
     let HeaderRead::Read(record, n) = header else {
         return without_beacon(header.outcome(), header);
     };
-    if opens(record) {
+    if unsecured_beacon(record) {
         return with_beacon(frame, header, n);
     }
     without_beacon(header.outcome(), header)
@@ -83,6 +92,7 @@ pub fn read(frame: &[u8]) -> FrameRead
 // frame its empty beginning.
 pub fn payload<'a>(frame: &'a [u8], number: &mut u8) -> &'a [u8]
     ensures { λ r. ⌜ now r ≡ payloadOf (readFrame (now (frame .entry)) .outcome) (now (frame .entry)) ⌝ }
+    ensures { λ r. ⌜ begins r (frame .entry) (readFrame (now (frame .entry)) .outcome .length) ⌝ }
     ensures { λ r. ⌜ now (number .exit) ≡ readFrame (now (frame .entry)) .outcome .number ⌝ }
 {
     let view = read(frame);
@@ -92,6 +102,6 @@ pub fn payload<'a>(frame: &'a [u8], number: &mut u8) -> &'a [u8]
         let start = outcome.length;
         &frame[start..]
     } else {
-        &frame[..0]
+        &frame[0..0]
     }
 }

@@ -26,7 +26,7 @@ beacon c =
     let call = found .before .before in
     c .with-beacon .ensures
     ∙ rw (← call .read .ensures)
-    (rw (found .header .given .1) (simp (sym (c .before .before .opens .ensures) ∙ c .before .if1 .taken)))
+    (rw (found .header .given .1) (simp (sym (c .before .before .unsecured-beacon .ensures) ∙ c .before .if1 .taken)))
 
 plain : tie.Need-returns-3
 unfolding readFrame
@@ -36,7 +36,7 @@ plain c =
     let test = c .before .before in
     c .without-beacon2 .ensures
     ∙ rw (c .before .outcome2 .ensures, ← call .read .ensures)
-    (rw (found .header .given .1) (simp (sym (test .before .opens .ensures) ∙ test .if1 .left)))
+    (rw (found .header .given .1) (simp (sym (test .before .unsecured-beacon .ensures) ∙ test .if1 .left)))
 
 pub read-spec : {M : Type 1} → statement M
 read-spec =
