@@ -4,7 +4,7 @@ use Prim.Native.Nat.{ℕ, _+_, _-_, _*_, _%_, _^_, _<_}
 use native.Mathlib.Nat.{mod-eq-of-lt}
 use native.Mathlib.Omega.{arith}
 use mathlib.Core.Bool.{false}
-use mathlib.Core.Path.{_≡_, sym, _∙_}
+use mathlib.Core.Path.{_≡_, sym, ap, _∙_}
 use lib.Dec.{eqb}
 use Rattle.octets.specs.Bits.{bits, bit, bitOf, clear}
 use Rattle.octets.proofs.Bits.{bit-back, bit-again, bit-small, bits-low, bits-join}
@@ -38,6 +38,17 @@ small c = (
   mode-small (c .source),
 )
 
+-- no test of the definition holds of the number
+pub record Known (w : ℕ) : Type 0 where
+  pub version : eqb (bits w 12 2) 3 ≡ false
+  pub type : eqb (bits w 0 3) 4 ≡ false
+  pub destination : eqb (bits w 10 2) 1 ≡ false
+  pub source : eqb (bits w 14 2) 1 ≡ false
+
+pub control-read : (w : ℕ) → Known w → controlIn w ≡ Read (controlOf w)
+unfolding controlIn
+control-read w k = simp (k .version, k .type, k .destination, k .source)
+
 -- each field of the number put together is at its bits
 module _ (c : FrameControl) where
   type-at : bits (controlBits c) 0 3 ≡ typeBits (c .«frame_type»)
@@ -68,7 +79,7 @@ module _ (c : FrameControl) where
   unfolding controlBits
   elements-at = let h = small c in omega arith
 
-  destination-at : bits (controlBits c) 10 2 ≡ modeBits (c .destination)
+  pub destination-at : bits (controlBits c) 10 2 ≡ modeBits (c .destination)
   unfolding controlBits
   destination-at = let h = small c in omega arith
 
@@ -76,7 +87,7 @@ module _ (c : FrameControl) where
   unfolding controlBits
   version-at = let h = small c in omega arith
 
-  source-at : bits (controlBits c) 14 2 ≡ modeBits (c .source)
+  pub source-at : bits (controlBits c) 14 2 ≡ modeBits (c .source)
   unfolding controlBits
   source-at = let h = small c in omega arith
 
@@ -85,19 +96,15 @@ module _ (c : FrameControl) where
   control-small = let h = small c in omega arith
 
   -- fields put together are read as those fields
-  pub control-back : controlIn (controlBits c) ≡ Read c
-  unfolding controlIn
-  control-back =
+  pub control-of : controlOf (controlBits c) ≡ c
+  control-of =
       simp (
         version-at,
-        version-listed,
         version-back,
         type-at,
-        type-listed,
         type-back,
         destination-at,
         source-at,
-        mode-listed,
         mode-back,
         security-at,
         pending-at,
@@ -107,6 +114,17 @@ module _ (c : FrameControl) where
         elements-at,
         bit-back,
       )
+
+  pub control-known : Known (controlBits c)
+  control-known = record {
+    version = ap (λ (n : ℕ). eqb n 3) version-at ∙ version-listed (c .version);
+    type = ap (λ (n : ℕ). eqb n 4) type-at ∙ type-listed (c .«frame_type»);
+    destination = ap (λ (n : ℕ). eqb n 1) destination-at ∙ mode-listed (c .destination);
+    source = ap (λ (n : ℕ). eqb n 1) source-at ∙ mode-listed (c .source);
+  }
+
+  pub control-back : controlIn (controlBits c) ≡ Read c
+  control-back = control-read (controlBits c) control-known ∙ ap Read control-of
 
 -- the fields of a number sum up to the number without its bit 7
 sum : (w t s p a k x q i d v m r4 r5 r6 r7 r8 r9 r10 r12 r14 : ℕ) →
@@ -128,19 +146,8 @@ joined w h =
     (bits-join w 10 2)
     (bits-join w 12 2) (sym (mod-eq-of-lt h) ∙ bits-join w 14 2))
 
--- no test of the definition holds of the number
-pub record Known (w : ℕ) : Type 0 where
-  pub version : eqb (bits w 12 2) 3 ≡ false
-  pub type : eqb (bits w 0 3) 4 ≡ false
-  pub destination : eqb (bits w 10 2) 1 ≡ false
-  pub source : eqb (bits w 14 2) 1 ≡ false
-
--- then its fields are read, and its listed values have the bits that they were read from
+-- the listed values of a known number have the bits that they were read from
 module _ (w : ℕ) (k : Known w) where
-  pub control-read : controlIn w ≡ Read (controlOf w)
-  unfolding controlIn
-  control-read = simp (k .version, k .type, k .destination, k .source)
-
   pub destination-bits : modeBits (controlOf w .destination) ≡ bits w 10 2
   destination-bits = mode-again (bits w 10 2) (omega arith) (k .destination)
 

@@ -2,16 +2,22 @@
 -- Assumes nothing.
 use Prim.Native.Nat.{ℕ, _+_, _^_, _≤_, _<_}
 use native.Mathlib.Omega.{arith}
-use mathlib.Core.Bool.{Bool, true, false, not, cond}
+use mathlib.Core.Bool.{Bool, true, false, not, _&&_, cond}
 use mathlib.Core.List.{List, [], _++_, append-assoc}
-use mathlib.Core.Path.{_≡_, refl, ap, _∙_}
+use mathlib.Core.Path.{_≡_, refl, sym, ap, _∙_}
 use borrow.Author.Tests.{ltb-false}
+use lib.Dec.{ltb, eqb}
 use lib.ListN.{length, length-append}
+use Rattle.octets.specs.Bits.{bits, bit}
 use Rattle.octets.specs.Little.{split, number}
 use Rattle.octets.proofs.Little.{split-length, number-back}
-use Rattle.frame_control.specs.declared.FrameControlRead.the-variants as ControlRead
-use Rattle.frame_control.specs.Control.{controlIn, controlBits}
-use Rattle.frame_control.proofs.Control.{control-small, control-back}
+use Rattle.header_bytes.specs.Layout.{start, ownDestination, ownSource, destinationEnd, sourceEnd, headerEnd}
+use Rattle.header_bytes.specs.Reading.{unshared}
+use Rattle.header_bytes.proofs.Passed.{Passed}
+use Rattle.frame_control.specs.declared.FrameControl.{FrameControl}
+use Rattle.frame_control.specs.Control.{controlOf, controlBits}
+use Rattle.frame_control.specs.Modes.{modeBits}
+use Rattle.frame_control.proofs.Control.{control-small, control-of, control-known, destination-at, source-at, compress-at}
 use Rattle.identifiers.specs.declared.PanId.{PanId}
 use Rattle.identifiers.specs.PanId.{pan}
 use Rattle.address.specs.declared.Address.the-variants.{Short, Extended}
@@ -23,19 +29,18 @@ use Rattle.address.proofs.Addresses.{address-length, address-back}
 use Rattle.security.specs.declared.OptionalCounter.{OptionalCounter}
 use Rattle.security.specs.declared.OptionalSecurityHeader.{OptionalSecurityHeader}
 use Rattle.security.specs.declared.OptionalSecurityHeader.the-variants.{Absent, Present}
-use Rattle.security.specs.Optional.{isPresent, levelTooLarge, optionalLength, optionalBytes, counterOf}
+use Rattle.security.specs.Optional.{isPresent, optionalTooLarge, optionalLength, optionalIn, optionalBytes, counterOf}
 use Rattle.security.specs.Security.{levelOf}
-use Rattle.security.proofs.Security.{security-back}
+use Rattle.security.proofs.Security.{security-in, length-read}
 use Rattle.header.specs.declared.Header.{Header}
 use Rattle.header.specs.declared.HeaderRead.the-variants.{Read}
 use Rattle.header.specs.declared.HeaderWritten.the-variants.{Written}
-use Rattle.header.specs.declared.SecurityPart.the-variants as Part
-use Rattle.header.specs.Record.{headerOf, secured, sourceOwn, addressesEnd, headerLength}
-use Rattle.header.specs.Read.{unshared, sourceEnd, destinationIn, sourceIn, behindPlace, securityPart, readHeader}
+use Rattle.header.specs.Record.{headerOf, secured, ownsDestination, ownsSource, addressesEnd, headerLength}
+use Rattle.header.specs.Read.{destinationIn, sourceIn, headerIn, readBy, readHeader}
 use Rattle.header.specs.Write.{bothPresent, writeHeader, writtenControl, fixedBytes, headerBytes}
 use Rattle.header.proofs.Writing.{fixed-length, header-length, written-passes}
-use Rattle.header.proofs.Apart.{Stages, together}
-use Rattle.header_facts.specs.RoundTrip.{toldPart, toldHeader, Small, SmallPart}
+use Rattle.header.proofs.Apart.{together}
+use Rattle.header_facts.specs.Told.{partTold, headerTold, Small, SmallPart}
 
 -- an address with its own PAN id is read as it was
 own-back : (shared : PanId) (a : OptionalAddress) → sharing true shared a ≡ a

@@ -57,6 +57,11 @@ laid-past l at (x ∷ b) h =
     set-past (y ∷ l) zero x h = absurd (omega arith)
     set-past (y ∷ l) (suc i) x h = ap (λ (m : List ℕ). y ∷ m) (set-past l i x (omega arith))
 
+-- and the place behind both is the place behind their bytes
+pub place-on : (at next last m n room : ℕ) → next ≡ at + min m (room - at) → last ≡ next + min n (room - next) →
+    last ≡ at + min (m + n) (room - at)
+place-on at next last m n room e f = omega arith
+
 -- one store and the next are one
 pub laid-join : (l : List ℕ) (at next n : ℕ) (a b : List ℕ) → length a ≡ n → next ≡ at + n → laid (laid l at a) next b ≡ laid l at (a ++ b)
 laid-join l at next n a b e f = rw (f, sym e) (laid-append l at a b)
