@@ -31,12 +31,12 @@ use Rattle.header.specs.Record.{ownsDestination, ownsSource, addressesEnd, head
 use Rattle.header.specs.Read.{destinationIn, headerIn}
 
 -- an address's bytes by its mode and by the mode's number
-to-size : (m : AddressMode) → modeLength (ltb 1 (modeBits m)) m ≡ panSize (ltb 1 (modeBits m)) + addressSize (modeBits m)
+pub to-size : (m : AddressMode) → modeLength (ltb 1 (modeBits m)) m ≡ panSize (ltb 1 (modeBits m)) + addressSize (modeBits m)
 to-size Mode.None = refl
 to-size Mode.Short = refl
 to-size Mode.Extended = refl
 
-from-size : (k : Bool) (m : AddressMode) →
+pub from-size : (k : Bool) (m : AddressMode) →
     modeLength (not k && ltb 1 (modeBits m)) m ≡ panSize (not k && ltb 1 (modeBits m)) + addressSize (modeBits m)
 from-size true Mode.None = refl
 from-size true Mode.Short = refl
