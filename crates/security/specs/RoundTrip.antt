@@ -38,7 +38,8 @@ pub record RoundTrip (s : List ℕ) (at : ℕ) (h : AuxiliarySecurityHeader) (n 
   pub buffer : (out : List ℕ) (to : ℕ) → to + n ≤ length out →
       laid out to (securityRewritten h) ≡ take to out ++ (securityRewritten h ++ drop (to + n) out)
   -- reading them gives the same record, wherever they stand
-  pub again : (before after : List ℕ) → readSecurity (before ++ (securityRewritten h ++ after)) (length before) ≡ Read h n
+  pub again : (before after : List ℕ) →
+      readSecurity (before ++ (securityRewritten h ++ after)) (length before) ≡ Read h n
   -- there is nothing left to clear
   pub settled : securityCleared (securityRewritten h) 0 ≡ securityRewritten h
   -- bytes added behind the input alter none of this
