@@ -1,14 +1,19 @@
 -- Laws of the key identifier: its length, what is read back from what was written, written again from what was read, not altered by what
 -- follows, and within its width.
 -- Assumes nothing.
-use Prim.Native.Nat.{ℕ, _+_, _^_, _≤_, _<_}
+use Prim.Native.Nat.{ℕ, _+_, _-_, _^_, _≤_, _<_}
 use native.Mathlib.Omega.{arith}
+use mathlib.Core.Bool.{cond}
 use mathlib.Core.List.{List, _++_, append-assoc}
 use mathlib.Core.Path.{_≡_, refl, sym}
+use borrow.Author.Tests.{ltb-true}
+use lib.Dec.{ltb}
 use lib.ListN.{length, take, drop, length-append}
 use lib.Seq.{take-add, drop-drop}
 use Rattle.octets.specs.Little.{split, number, Bytes}
-use Rattle.octets.proofs.Little.{split-length, split-bytes, bytes-append, number-back, number-again, number-more, number-small}
+use Rattle.octets.proofs.Little.{split-length, split-bytes, bytes-append, number-past, number-back, number-again, number-more}
+use Rattle.octets.proofs.Little.{number-small}
+use Rattle.octets.proofs.Cases.{cases, holds?}
 use Rattle.security_control.specs.declared.KeyIdentifierMode.{KeyIdentifierMode}
 use Rattle.security_control.specs.declared.KeyIdentifierMode.the-variants as Mode
 use Rattle.key_identifier.specs.declared.KeySource.the-variants.{Short, Long}
@@ -93,6 +98,23 @@ key-again Mode.None s at b h = refl
 key-again Mode.KeyIndex s at b h = number-again s at 1 b h
 key-again Mode.KeySource4 s at b h = number-and-index s at 4 b h
 key-again Mode.KeySource8 s at b h = number-and-index s at 8 b h
+
+-- a place n bytes on, or where the list ends, whichever comes first: past the end all places read alike
+key-past : (m : KeyIdentifierMode) (s : List ℕ) (at next : ℕ) → length s ≤ at → length s ≤ next → keyIn m s at ≡ keyIn m s next
+unfolding keyIn
+key-past Mode.None s at next h k = refl
+key-past Mode.KeyIndex s at next h k = rw (number-past s at 1 h, number-past s next 1 k)
+key-past Mode.KeySource4 s at next h k =
+    rw (number-past s at 4 h, number-past s next 4 k, number-past s (at + 4) 1 (omega arith), number-past s (next + 4) 1 (omega arith))
+key-past Mode.KeySource8 s at next h k =
+    rw (number-past s at 8 h, number-past s next 8 k, number-past s (at + 8) 1 (omega arith), number-past s (next + 8) 1 (omega arith))
+
+pub key-behind : (m : KeyIdentifierMode) (s : List ℕ) (at n : ℕ) →
+    keyIn m s (cond (ltb (length s - at) n) (length s) (at + n)) ≡ keyIn m s (at + n)
+key-behind m s at n =
+    cases (holds? (ltb (length s - at) n))
+    (λ t. let h : length s - at < n = ltb-true _ _ t in simp t (key-past m s (length s) (at + n) (omega arith) (omega arith)))
+    (λ t. simp t)
 
 -- bytes behind alter nothing
 pub key-more : (m : KeyIdentifierMode) (s t : List ℕ) (at : ℕ) → at + keyLength m ≤ length s → keyIn m (s ++ t) at ≡ keyIn m s at

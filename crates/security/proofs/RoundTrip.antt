@@ -8,9 +8,11 @@ use mathlib.Core.Logic.{_⊎_, inl, inr}
 use mathlib.Core.Path.{_≡_, refl, sym, ap, _∙_}
 use borrow.Author.Tests.{le-ltb, ltb-false}
 use lib.Dec.{ltb}
-use lib.ListN.{length, length-append}
+use lib.ListN.{length, take, drop, length-append}
+use Rattle.octets.specs.Buffer.{laid}
 use Rattle.octets.specs.Little.{Bytes}
 use Rattle.octets.specs.Part.{ends}
+use Rattle.octets.proofs.Buffer.{laid-parts}
 use Rattle.octets.proofs.Cases.{cases, holds?}
 use Rattle.security_control.specs.declared.KeyIdentifierMode.{KeyIdentifierMode}
 use Rattle.security_control.specs.declared.KeyIdentifierMode.the-variants as Mode
@@ -21,7 +23,7 @@ use Rattle.security.specs.declared.SecurityHeaderWritten.the-variants.{W
 use Rattle.key_identifier.specs.Key.{modeOfKey, keyLength}
 use Rattle.security.specs.Security.{lengthIn, securityIn, levelOf, securityLength}
 use Rattle.security.specs.Answer.{readSecurity, writeSecurity}
-use Rattle.security.specs.RoundTrip.{cleared, rewritten, RoundTrip}
+use Rattle.security.specs.RoundTrip.{securityCleared, securityRewritten, RoundTrip}
 use Rattle.security.proofs.Security.{security-length, security-bytes, security-back, security-again, security-small, counter-small}
 use Rattle.security.proofs.Security.{security-told, length-again, length-more, security-more}
 
@@ -68,26 +70,35 @@ module _ (s : List ℕ) (at : ℕ) (b : Bytes s) (whole : at + lengthIn s at ≤
   accepted out place room =
       let level : ltb 7 (levelOf header) ≡ false = le-ltb 7 (levelOf header) (omega (arith, security-small s at b whole .0)) in
       let enough : ends out place (lengthIn s at) ≡ false = le-ltb (length out - place) (lengthIn s at) room in
-      simp (level, length-again s at b whole, enough)
+      simp (level, length-again s at, enough)
 
-  again : (before after : List ℕ) → readSecurity (before ++ (rewritten header ++ after)) (length before) ≡ Read header (lengthIn s at)
+  long : length (securityRewritten header) ≡ lengthIn s at
+  long = security-length header (header .«frame_counter») ∙ length-again s at
+
+  buffer : (out : List ℕ) (to : ℕ) → to + lengthIn s at ≤ length out →
+      laid out to (securityRewritten header) ≡ take to out ++ (securityRewritten header ++ drop (to + lengthIn s at) out)
+  buffer out to room = rw long at (laid-parts out to (securityRewritten header) (rw long room))
+
+  again : (before after : List ℕ) → readSecurity (before ++ (securityRewritten header ++ after)) (length before) ≡ Read header (lengthIn s at)
   again before after =
       security-back header (header .«frame_counter») before after (length before) refl
       (security-small s at b whole) (counter-small s at b whole)
-      ∙ (λ i. Read (security-told s at b whole i) (length-again s at b whole i))
+      ∙ (λ i. Read (security-told s at b whole i) (length-again s at i))
 
-  settled : cleared (rewritten header) 0 ≡ rewritten header
+  settled : securityCleared (securityRewritten header) 0 ≡ securityRewritten header
   settled =
-      let bytes = rewritten header in
+      let bytes = securityRewritten header in
       let read : readSecurity bytes 0 ≡ Read header (lengthIn s at) = rw append-nil at (again [] []) in
       let q = accepted-whole bytes 0 header (lengthIn s at) read in
-      sym (security-again bytes 0 (security-bytes header (header .«frame_counter»)) (q .0)) ∙ ap rewritten (q .1)
+      sym (security-again bytes 0 (security-bytes header (header .«frame_counter»)) (q .0)) ∙ ap securityRewritten (q .1)
 
   trip : RoundTrip s at header (lengthIn s at)
   trip = record {
+    within = omega arith;
     accepted = accepted;
     written = security-again s at b whole;
-    long = security-length header (header .«frame_counter») ∙ length-again s at b whole;
+    long = long;
+    buffer = buffer;
     again = again;
     settled = settled;
     behind = λ more. whole-more s more at whole;

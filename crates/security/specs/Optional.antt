@@ -1,18 +1,23 @@
 -- What may be absent: a header's security part, and the counter that a writer is handed.
-use Rattle.octets.specs.Words.{ℕ, Bool, true, false, List, [], ltb}
+use Rattle.octets.specs.Words.{ℕ, Bool, true, false, cond, List, []}
+use Rattle.security_control.specs.Control.{levelTooLarge}
 use Rattle.security.specs.declared.{OptionalCounter.OptionalCounter}
 use Rattle.security.specs.declared.{OptionalSecurityHeader.OptionalSecurityHeader}
-use Rattle.security.specs.Security.{levelOf, securityLength, securityBytes}
+use Rattle.security.specs.Security.{securityIn, securityLength, securityBytes}
 use Rattle.security.specs.declared.OptionalSecurityHeader.the-variants.{Absent, Present}
 
 abbrev pub isPresent : OptionalSecurityHeader → Bool
 isPresent Absent = false
 isPresent (Present k) = true
 
+-- the security part at a place, where the frame control announces one
+abbrev pub optionalIn : Bool → List ℕ → ℕ → OptionalSecurityHeader
+optionalIn on s at = cond on (Present (securityIn s at)) Absent
+
 -- refusal 8: a security level above 7, where there is a security part
-abbrev pub levelTooLarge : OptionalSecurityHeader → Bool
-levelTooLarge Absent = false
-levelTooLarge (Present k) = ltb 7 (levelOf k)
+abbrev pub optionalTooLarge : OptionalSecurityHeader → Bool
+optionalTooLarge Absent = false
+optionalTooLarge (Present k) = levelTooLarge (k .control)
 
 abbrev pub optionalLength : OptionalSecurityHeader → ℕ
 optionalLength Absent = 0

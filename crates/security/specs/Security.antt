@@ -3,7 +3,7 @@
 use Rattle.octets.specs.Words.{ℕ, _+_, _<_, List, _++_}
 use Rattle.octets.specs.Little.{number, split}
 use Rattle.security_control.specs.declared.{SecurityControl.SecurityControl}
-use Rattle.security_control.specs.Control.{controlOf, controlIn, controlBits}
+use Rattle.security_control.specs.Control.{securityControlOf, securityControlIn, securityControlBits}
 use Rattle.key_identifier.specs.declared.{OptionalKeyIdentifier.OptionalKeyIdentifier}
 use Rattle.key_identifier.specs.Key.{modeOfKey, keyLength, keyIn, keyBytes, SmallKey}
 use Rattle.security.specs.declared.{AuxiliarySecurityHeader.AuxiliarySecurityHeader}
@@ -13,7 +13,7 @@ securityOf control counter key = record { control = control; «frame_counter» =
 
 -- the control at a place, how many bytes it announces, and what they say
 abbrev pub controlAt : List ℕ → ℕ → SecurityControl
-controlAt s at = controlIn (number s at 1)
+controlAt s at = securityControlIn (number s at 1)
 
 abbrev pub lengthIn : List ℕ → ℕ → ℕ
 lengthIn s at = 5 + keyLength (controlAt s at .«key_id_mode»)
@@ -29,12 +29,12 @@ abbrev pub securityLength : AuxiliarySecurityHeader → ℕ
 securityLength h = 5 + keyLength (modeOfKey (h .«key_identifier»))
 
 -- the control byte of a record: its level, and the mode of its key identifier
-abbrev pub writtenControl : AuxiliarySecurityHeader → ℕ
-writtenControl h = controlBits (controlOf (levelOf h) (modeOfKey (h .«key_identifier»)))
+abbrev pub securityControlWritten : AuxiliarySecurityHeader → ℕ
+securityControlWritten h = securityControlBits (securityControlOf (levelOf h) (modeOfKey (h .«key_identifier»)))
 
 -- the bytes of a record, written with a counter
 unfoldable pub securityBytes : AuxiliarySecurityHeader → ℕ → List ℕ
-securityBytes h counter = split 1 (writtenControl h) ++ (split 4 counter ++ keyBytes (h .«key_identifier»))
+securityBytes h counter = split 1 (securityControlWritten h) ++ (split 4 counter ++ keyBytes (h .«key_identifier»))
 
 -- each number within its width, and the level within three bits
 abbrev pub SmallSecurity : AuxiliarySecurityHeader → Type 0

@@ -1,16 +1,20 @@
 // The auxiliary security header: security control, frame counter, key identifier; read and written as a part of a slice
-// at a place. Functions with a `requires` are building blocks of this project's writers, which measure first.
-ghost use Rattle.octets.specs.Words.{_+_, _≤_, _≡_, length};
+// at a place. Bytes past the end of a slice count as 0 in `at` and are dropped by `put`: readers and writers measure
+// first.
+ghost use Rattle.octets.specs.Words.{_+_, _-_, _≤_, min, _≡_, length};
 ghost use Rattle.octets.specs.Buffer.{laid, after};
-ghost use Rattle.security.specs.Security.{securityOf, securityLength, writtenControl, securityBytes};
-ghost use Rattle.security.specs.Optional.{isPresent, levelTooLarge, optionalLength, optionalBytes};
+ghost use Rattle.security.specs.Security.{securityOf, securityIn, securityLength, securityControlWritten};
+ghost use Rattle.security.specs.Security.{securityBytes};
+ghost use Rattle.security.specs.Optional.{isPresent, optionalIn, optionalTooLarge, optionalLength, optionalBytes};
 ghost use Rattle.security.specs.Optional.{missing, counterOf, counterRead};
-ghost use Rattle.security.specs.Answer.{readSecurity, readOutcome, writeSecurity, writtenOutcome};
+ghost use Rattle.security.specs.Answer.{readSecurity, securityReadOutcome, writeSecurity};
+ghost use Rattle.security.specs.Answer.{securityWrittenOutcome};
 use key_identifier::OptionalKeyIdentifier;
 use key_identifier::key_at;
 use key_identifier::key_octets;
 use key_identifier::put_key;
 use octets::Outcome;
+use octets::behind;
 use octets::left;
 use octets::put;
 use octets::u8_at;
@@ -44,9 +48,20 @@ impl OptionalSecurityHeader {
         }
     }
 
+    // The security part at a place, where there is one (on), bytes past the end 0.
+    pub fn at(s: &[u8], at: usize, on: bool) -> OptionalSecurityHeader
+        ensures { λ r. ⌜ r ≡ optionalIn on (now (s .entry)) at ⌝ }
+    {
+        if on {
+            OptionalSecurityHeader::Present(AuxiliarySecurityHeader::at(s, at))
+        } else {
+            OptionalSecurityHeader::Absent
+        }
+    }
+
     // A security level above 7.
     pub fn too_large(self) -> bool
-        ensures { λ r. ⌜ r ≡ levelTooLarge self ⌝ }
+        ensures { λ r. ⌜ r ≡ optionalTooLarge self ⌝ }
     {
         match self {
             OptionalSecurityHeader::Absent => false,
@@ -68,10 +83,9 @@ impl OptionalSecurityHeader {
         }
     }
 
-    // Stores it, or nothing, with a counter at a place and returns the place behind it. Asks for its room.
+    // Stores it, or nothing, with a counter at a place, as much as has room, and returns the place behind it.
     pub fn put(self, out: &mut [u8], at: usize, counter: u32) -> usize
-        requires { ⌜ at + optionalLength self ≤ length (now out) ⌝ }
-        ensures { λ r. ⌜ r ≡ at + optionalLength self ⌝ }
+        ensures { λ r. ⌜ r ≡ at + min (optionalLength self) (length (now (out .entry)) - at) ⌝ }
         ensures { λ r. ⌜ now (out .exit) ≡ laid (now (out .entry)) at (optionalBytes self counter) ⌝ }
     {
         match self {
@@ -122,7 +136,7 @@ pub enum SecurityHeaderRead {
 
 impl SecurityHeaderRead {
     pub fn outcome(self) -> Outcome
-        ensures { λ r. ⌜ r ≡ readOutcome self ⌝ }
+        ensures { λ r. ⌜ r ≡ securityReadOutcome self ⌝ }
     {
         match self {
             SecurityHeaderRead::Read(_, n) => Outcome::accepted(n),
@@ -141,7 +155,7 @@ pub enum SecurityHeaderWritten {
 
 impl SecurityHeaderWritten {
     pub fn outcome(self) -> Outcome
-        ensures { λ r. ⌜ r ≡ writtenOutcome self ⌝ }
+        ensures { λ r. ⌜ r ≡ securityWrittenOutcome self ⌝ }
     {
         match self {
             SecurityHeaderWritten::Written(n) => Outcome::accepted(n),
@@ -179,35 +193,37 @@ impl AuxiliarySecurityHeader {
         5 + key_octets(key.mode())
     }
 
+    // What the bytes at a place say, those past the end 0.
+    fn at(s: &[u8], at: usize) -> Self
+        ensures { λ r. ⌜ r ≡ securityIn (now (s .entry)) at ⌝ }
+    {
+        let control = SecurityControl::from_bits(u8_at(s, at));
+        let frame_counter = u32_at(s, behind(s, at, 1));
+        let mode = control.key_id_mode;
+        let key_identifier = key_at(s, behind(s, at, 5), mode);
+        AuxiliarySecurityHeader {
+            control,
+            frame_counter,
+            key_identifier,
+        }
+    }
+
     // Reads it at a place: its first byte tells how many there are to be.
     pub fn read(s: &[u8], at: usize) -> SecurityHeaderRead
         ensures { λ r. ⌜ r ≡ readSecurity (now (s .entry)) at ⌝ }
     {
-        let room = left(s, at);
-        if room < 5 {
-            return SecurityHeaderRead::Ended;
-        }
         let control = SecurityControl::from_bits(u8_at(s, at));
         let mode = control.key_id_mode;
         let n = 5 + key_octets(mode);
-        if room < n {
+        if left(s, at) < n {
             return SecurityHeaderRead::Ended;
         }
-        let frame_counter = u32_at(s, at + 1);
-        let key_identifier = key_at(s, at + 5, mode);
-        SecurityHeaderRead::Read(
-            AuxiliarySecurityHeader {
-                control,
-                frame_counter,
-                key_identifier,
-            },
-            n,
-        )
+        SecurityHeaderRead::Read(Self::at(s, at), n)
     }
 
     // The control byte as it is written: the level, and the mode of the key identifier.
     fn written_control(self) -> u8
-        ensures { λ r. ⌜ r ≡ writtenControl self ⌝ }
+        ensures { λ r. ⌜ r ≡ securityControlWritten self ⌝ }
         ensures { λ r. ⌜ r ≤ 31 ⌝ }
     {
         let control = self.control;
@@ -220,10 +236,9 @@ impl AuxiliarySecurityHeader {
         written.to_bits()
     }
 
-    // Stores it with a counter at a place and returns the place behind it. Asks for its room.
+    // Stores it with a counter at a place, as much as has room, and returns the place behind it.
     pub fn put(self, out: &mut [u8], at: usize, counter: u32) -> usize
-        requires { ⌜ at + securityLength self ≤ length (now out) ⌝ }
-        ensures { λ r. ⌜ r ≡ at + securityLength self ⌝ }
+        ensures { λ r. ⌜ r ≡ at + min (securityLength self) (length (now (out .entry)) - at) ⌝ }
         ensures { λ r. ⌜ now (out .exit) ≡ laid (now (out .entry)) at (securityBytes self counter) ⌝ }
     {
         let behind_control = put(self.written_control() as u64, 1, out, at);
@@ -237,7 +252,7 @@ impl AuxiliarySecurityHeader {
     pub fn write(self, out: &mut [u8], at: usize, counter: OptionalCounter) -> SecurityHeaderWritten
         ensures { λ r. ⌜ r ≡ writeSecurity self counter (now (out .entry)) at ⌝ }
         ensures { λ r. ⌜ now (out .exit) ≡
-            after (writtenOutcome r) (now (out .entry)) at (securityBytes self (counterOf counter)) ⌝ }
+            after (securityWrittenOutcome r) (now (out .entry)) at (securityBytes self (counterOf counter)) ⌝ }
     {
         let control = self.control;
         if 7 < control.security_level {

@@ -12,7 +12,13 @@ short-source c =
     let place = c .before in
     let match = place .before .before in
     let a = match .before .before .before .args in
-    rw (match .enum-told3 .given .1, c .u8-at2 .ensures, place .behind .ensures, place .before .u32-at .ensures, number-behind (a .s .now) (a .at) 4 1)
+    rw (
+      match .enum-told3 .given .1,
+      place .before .u32-at .ensures,
+      c .u8-at2 .ensures,
+      place .behind .ensures,
+      number-behind (a .s .now) (a .at) 4 1,
+    )
 
 long-source : tie.Need-returns-4
 unfolding keyIn
@@ -20,7 +26,13 @@ long-source c =
     let place = c .before in
     let match = place .before .before in
     let a = match .before .before .before .args in
-    rw (match .enum-told4 .given .1, c .u8-at3 .ensures, place .behind2 .ensures, place .before .u64-at .ensures, number-behind (a .s .now) (a .at) 8 1)
+    rw (
+      match .enum-told4 .given .1,
+      place .before .u64-at .ensures,
+      c .u8-at3 .ensures,
+      place .behind2 .ensures,
+      number-behind (a .s .now) (a .at) 8 1,
+    )
 
 pub key-at-spec : {M : Type 1} → statement M
 unfolding keyIn
