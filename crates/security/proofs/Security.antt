@@ -85,18 +85,23 @@ module _ (h : AuxiliarySecurityHeader) (counter : ℕ) (before after : List ℕ)
       ∙ ap (λ (s : List ℕ). keyIn (modeOfKey (h .«key_identifier»)) s (at + 5)) behind-counter
       ∙ key-back (h .«key_identifier») ((before ++ split 1 (securityControlWritten h)) ++ split 4 counter) after (at + 5) k (l .1)
 
-  length-read : levelOf h < 8 → lengthIn whole at ≡ securityLength h
+  pub length-read : levelOf h < 8 → lengthIn whole at ≡ securityLength h
   length-read l = ap (λ (c : SecurityControl). 5 + keyLength (c .«key_id_mode»)) (control-read l)
+
+  -- a record that was written with a counter stands there as told
+  pub security-in : SmallSecurity h → counter < 256 ^ 4 → securityIn whole at ≡ securityTold h counter
+  unfolding securityIn
+  security-in l m = λ i. securityOf (control-read (l .0) i) (counter-in m i) (key-read l i)
 
   there : securityLength h ≤ length whole - at
   there = simp (length-append, security-length) (omega (arith, e))
 
-  -- a record that was written with a counter is read as told
+  -- and is read so
   pub security-back : SmallSecurity h → counter < 256 ^ 4 → readSecurity whole at ≡ Read (securityTold h counter) (securityLength h)
-  unfolding readSecurity securityIn
+  unfolding readSecurity
   security-back l m =
       let enough : ends whole at (securityLength h) ≡ false = le-ltb (length whole - at) (securityLength h) there in
-      simp (length-read (l .0), enough, key-read l, control-read (l .0), counter-in m)
+      simp (length-read (l .0), enough, security-in l m)
 
 -- a security header that was read from bytes: the parts of the bytes, the first with its bits cleared
 spliced : (d : List ℕ) (k : ℕ) → Bytes d → 5 + k ≤ length d →
