@@ -9,7 +9,7 @@ use Rattle.octets.specs.Little.{number}
 use Rattle.octets.proofs.Order.{first-map, none-first, none-holds}
 use Rattle.header_bytes.specs.Layout.{headerEnd}
 use Rattle.header_bytes.specs.Reading.{readTests, measured}
-use Rattle.header_bytes.proofs.Passed.{Passed, passed, failed}
+use Rattle.header_bytes.proofs.Passed.{Passed, passed, failed, answered-refusal}
 use Rattle.header.specs.declared.Header.{Header}
 use Rattle.header.specs.declared.HeaderRead.{HeaderRead}
 use Rattle.header.specs.declared.HeaderRead.the-variants.{Read, Refused}
@@ -26,6 +26,13 @@ read-measured s =
 pub together : (s : List ℕ) (w : ℕ) → Passed s w → readBy s w ≡ Read (headerIn s w) (headerEnd s w)
 unfolding readBy
 together s w p = none-first (λ (n : ℕ). Refused (refusalOf n)) (readTests s w) (Read (headerIn s w) (headerEnd s w)) (failed s w p)
+
+-- what measuring refuses is refused with that number
+pub refused-read : (s : List ℕ) → (measured s .number ≡ 0 → ⊥) → readHeader s ≡ Refused (refusalOf (measured s .number))
+unfolding readBy measured
+refused-read s f =
+    answered-refusal (λ (n : ℕ). Refused (refusalOf n)) (readTests s (number s 0 2)) (headerEnd s (number s 0 2))
+    (Read (headerIn s (number s 0 2)) (headerEnd s (number s 0 2))) f
 
 -- what an accepted header says
 pub record Found (s : List ℕ) (h : Header) (n : ℕ) : Type 0 where
