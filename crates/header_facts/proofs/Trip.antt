@@ -84,8 +84,8 @@ pub source-missing : (compress : Bool) (d s : OptionalAddress) → (compress && 
 source-missing false d s e = refl
 source-missing true Address.Absent s e = sym e ∙ absurd-end e
   where
-  absurd-end : true ≡ false → false ≡ eqb (modeBits (modeOf s)) 0
-  absurd-end f = absurd (true≢false f)
+    absurd-end : true ≡ false → false ≡ eqb (modeBits (modeOf s)) 0
+    absurd-end f = absurd (true≢false f)
 source-missing true (Address.Present d) Address.Absent e = refl
 source-missing true (Address.Present d) (Address.Present (Short p a)) e = refl
 source-missing true (Address.Present d) (Address.Present (Extended p a)) e = refl

@@ -57,19 +57,6 @@ laid-past l at (x ∷ b) h =
     set-past (y ∷ l) zero x h = absurd (omega arith)
     set-past (y ∷ l) (suc i) x h = ap (λ (m : List ℕ). y ∷ m) (set-past l i x (omega arith))
 
--- and the place behind both is the place behind their bytes
-pub place-on : (at next last m n room : ℕ) → next ≡ at + min m (room - at) → last ≡ next + min n (room - next) →
-    last ≡ at + min (m + n) (room - at)
-place-on at next last m n room e f = omega arith
-
--- the place behind two stores, one into what the other left
-pub place-then : (l m : List ℕ) (at next n k last : ℕ) (a : List ℕ) → m ≡ laid l at a → next ≡ at + min n (length l - at) →
-    last ≡ next + min k (length m - next) →
-    last ≡ at + min (n + k) (length l - at)
-place-then l m at next n k last a e f g =
-    let same : length m ≡ length l = ap length e ∙ laid-length l at a in
-    place-on at next last n k (length l) f (g ∙ ap (λ (room : ℕ). next + min k (room - next)) same)
-
 -- one store and the next are one
 pub laid-join : (l : List ℕ) (at next n : ℕ) (a b : List ℕ) → length a ≡ n → next ≡ at + n → laid (laid l at a) next b ≡ laid l at (a ++ b)
 laid-join l at next n a b e f = rw (f, sym e) (laid-append l at a b)
@@ -92,11 +79,19 @@ laid-on l at next n a b e f =
     ∙ sym (laid-past (laid l at a) (at + length a) b (omega (arith, laid-length l at a)))
     ∙ laid-append l at a b)
 
--- and so are the buffers that two calls left, where the second goes on behind what had room
-pub laid-then : (l : List ℕ) (at next n : ℕ) (a b : List ℕ) {m r : List ℕ} → length a ≡ n → next ≡ at + min n (length l - at) →
-    m ≡ laid l at a → r ≡ laid m next b →
-    r ≡ laid l at (a ++ b)
-laid-then l at next n a b long behind one two = rw (two, one) (laid-on l at next n a b long behind)
+-- place and buffer of two such stores
+places-on : (at next r n k room rest : ℕ) → next ≡ at + min n (room - at) → rest ≡ room → r ≡ next + min k (rest - next) →
+    r ≡ at + min (n + k) (room - at)
+places-on at next r n k room rest e f g = omega arith
+
+pub stored-on : (l : List ℕ) (at : ℕ) (a : List ℕ) (n : ℕ) (b : List ℕ) (k : ℕ) {m o : List ℕ} {next r : ℕ} → length a ≡ n →
+    (next ≡ at + min n (length l - at)) × (m ≡ laid l at a) →
+    (r ≡ next + min k (length m - next)) × (o ≡ laid m next b) →
+    (r ≡ at + min (n + k) (length l - at)) × (o ≡ laid l at (a ++ b))
+stored-on l at a n b k {m} {o} {next} {r} long one two = (
+  places-on at next r n k (length l) (length m) (one .0) (ap length (one .1) ∙ laid-length l at a) (two .0),
+  two .1 ∙ ap (λ (x : List ℕ). laid x next b) (one .1) ∙ laid-on l at next n a b long (one .0),
+)
 
 -- and so are the buffers that two calls left
 pub laid-two : (l : List ℕ) (at n next : ℕ) (a b : List ℕ) {m r : List ℕ} → length a ≡ n → next ≡ at + n → m ≡ laid l at a →

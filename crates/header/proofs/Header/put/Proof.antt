@@ -1,9 +1,10 @@
 -- `header::Header::put` meets its contract: each part is stored where the one before ends.
 -- Assumes nothing.
-use mathlib.Core.Path.{_≡_, refl, _∙_}
+use mathlib.Core.Path.{refl}
 use borrow.Author.Needs.{needs}
-use Rattle.octets.proofs.Buffer.{laid-then}
-use Rattle.header.specs.Write.{headerBytes}
+use lib.ListN.{length}
+use Rattle.octets.proofs.Buffer.{stored-on}
+use Rattle.header.specs.Write.{fixedBytes, addressesBytes, headerBytes}
 use Rattle.header.proofs.Writing.{fixed-length}
 use Rattle.header.proofs.Header.put.Statement.{statement}
 use Rattle.header.proofs.Header.put.Tie as tie
@@ -11,13 +12,13 @@ use Rattle.header.proofs.Header.put.Tie as tie
 returns : tie.Need-returns
 unfolding headerBytes
 returns c =
-    let security = c .before .before .put in
-    let second = c .before .before .before .before .before .before in
-    let addresses = second .put-addresses in
+    let third = c .before .before in
+    let second = third .before .before .before .before in
     let first = second .before .before .before .before in
-    let fixed = first .put-fixed in
-    let behind = laid-then _ _ _ _ _ _ refl (addresses .ensures .0) (addresses .ensures .1) (security .ensures .1) in
-    laid-then _ _ _ 3 _ _ (fixed-length _) (fixed .ensures .0) (fixed .ensures .1) behind
+    let h = first .before .before .before .args .self in
+    let addresses = addressesBytes h in
+    let behind = stored-on _ _ addresses (length addresses) _ _ refl (second .put-addresses .ensures) (third .put .ensures) in
+    stored-on _ _ (fixedBytes h) 3 _ _ (fixed-length h) (first .put-fixed .ensures) behind .1
 
 pub put-spec : {M : Type 1} → statement M
 put-spec = tie.close (tie.spec (λ c κs. search needs) (λ c κs. search needs) (λ c κs. search needs) (λ c. search needs) returns)

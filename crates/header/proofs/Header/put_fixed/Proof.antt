@@ -1,13 +1,13 @@
 -- `header::Header::put_fixed` meets its contract: the sequence number is stored behind the frame control.
 -- Assumes nothing.
 use Prim.Native.Nat.{ℕ}
-use mathlib.Core.List.{List}
-use mathlib.Core.Path.{_≡_, ap, _∙_}
+use mathlib.Core.List.{_++_}
+use mathlib.Core.Path.{ap, _∙_}
 use borrow.Author.Needs.{needs}
-use lib.ListN.{length}
-use Rattle.octets.specs.Little.{split}
+use denote.Ref.{now}
 use Rattle.octets.specs.Buffer.{laid}
-use Rattle.octets.proofs.Buffer.{laid-on, laid-then, place-then}
+use Rattle.octets.specs.Little.{split}
+use Rattle.octets.proofs.Buffer.{stored-on}
 use Rattle.octets.proofs.Little.{split-length}
 use Rattle.frame_control.specs.Control.{controlBits}
 use Rattle.header.proofs.Header.put_fixed.Statement.{statement}
@@ -15,12 +15,12 @@ use Rattle.header.proofs.Header.put_fixed.Tie as tie
 
 returns : tie.Need-returns
 returns c =
-    let second = c .before .before .put2 in
     let call = c .before .before .before .before .before .before .before in
-    let one = call .put in
-    let word = call .before .before .to-bits .ensures ∙ ap controlBits (call .before .before .before .written-control .ensures) in
-    let stored = one .ensures .1 ∙ ap (λ w. laid _ _ (split 2 w)) word in
-    (place-then _ _ _ 2 1 _ (split 2 _) stored (one .ensures .0) (second .ensures .0), laid-then _ _ _ 2 _ _ (split-length 2 _) (one .ensures .0) stored (second .ensures .1))
+    let control = call .before .before in
+    let a = control .before .before .before .args in
+    let word = control .to-bits .ensures ∙ ap controlBits (control .before .written-control .ensures) in
+    let both = stored-on _ _ _ 2 _ 1 (split-length 2 _) (call .put .ensures) (c .before .before .put2 .ensures) in
+    (both .0, both .1 ∙ ap (λ (w : ℕ). laid (now (a .out)) (a .at) (split 2 w ++ split 1 (a .self .seq))) word)
 
 pub put-fixed-spec : {M : Type 1} → statement M
 put-fixed-spec =

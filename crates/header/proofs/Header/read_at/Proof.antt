@@ -1,6 +1,6 @@
 -- `header::Header::read_at` meets its contract: behind the end there is nothing to read.
 -- Assumes nothing.
-use Prim.Native.Nat.{_≤_}
+use Prim.Native.Nat.{_-_, _≤_}
 use native.Mathlib.Omega.{arith}
 use mathlib.Core.Path.{_≡_, sym, ap, _∙_}
 use borrow.Author.Needs.{needs}
@@ -14,7 +14,8 @@ use Rattle.header.proofs.Header.read_at.Tie as tie
 there : tie.Need-returns
 there c =
     let a = c .before .before .before .before .args in
-    c .read .ensures ∙ ap readHeader (take-all _ _ (simp length-drop (omega arith)))
+    let s = now (a .s) in
+    c .read .ensures ∙ ap readHeader (take-all (length s - a .at) (drop (a .at) s) (simp length-drop (omega arith)))
 
 past : tie.Need-returns-2
 unfolding readBy

@@ -2,9 +2,9 @@
 -- Assumes nothing.
 use native.Mathlib.Omega.{arith}
 use borrow.Author.Needs.{needs}
+use Rattle.octets.proofs.Buffer.{stored-on}
 use Rattle.octets.proofs.Little.{split-length}
 use Rattle.security.specs.Security.{securityBytes}
-use Rattle.security.proofs.Stores.{stored-on}
 use Rattle.security.proofs.AuxiliarySecurityHeader.put.Statement.{statement}
 use Rattle.security.proofs.AuxiliarySecurityHeader.put.Tie as tie
 
