@@ -9,7 +9,7 @@ use mathlib.Core.Path.{_≡_, refl, sym, ap, _∙_}
 use lib.Dec.{ltb, eqb}
 use lib.ListN.{length}
 use Rattle.octets.specs.Bits.{bits, bit}
-use Rattle.octets.specs.Little.{number, Bytes}
+use Rattle.octets.specs.Little.{number}
 use Rattle.octets.proofs.Cases.{cases, holds?}
 use Rattle.header_bytes.specs.Layout.{start, ownDestination, ownSource, panSize, addressSize, securitySize, destinationEnd, sourceEnd, headerEnd}
 use Rattle.header_bytes.proofs.Passed.{Passed}
@@ -58,10 +58,10 @@ pub part-present : (on : Bool) (s : List ℕ) (at : ℕ) → isPresent (optional
 part-present true s at = refl
 part-present false s at = refl
 
-part-length : (on : Bool) (s : List ℕ) (at : ℕ) → Bytes s → (on ≡ true → at + lengthIn s at ≤ length s) →
+part-length : (on : Bool) (s : List ℕ) (at : ℕ) →
     at + optionalLength (optionalIn on s at) ≡ cond on (at + securitySize (bits (number s at 1) 3 2)) at
-part-length true s at b h = ap (λ (n : ℕ). at + n) (length-again s at b (h refl) ∙ security-size s at)
-part-length false s at b h = add-zero at
+part-length true s at = ap (λ (n : ℕ). at + n) (length-again s at ∙ security-size s at)
+part-length false s at = add-zero at
 
 module _ (s : List ℕ) (p : Passed s (number s 0 2)) where
   abbrev w : ℕ
@@ -101,10 +101,10 @@ module _ (s : List ℕ) (p : Passed s (number s 0 2)) where
 
   -- lengths of the addresses
   pub destination-size : modeLength ownTo (modeIn (bits w 10 2)) ≡ panSize ownTo + addressSize (bits w 10 2)
-  destination-size = rw destination-bits w known at (to-size (modeIn (bits w 10 2)))
+  destination-size = rw (destination-bits w known) at (to-size (modeIn (bits w 10 2)))
 
   pub source-size : modeLength ownFrom (modeIn (bits w 14 2)) ≡ panSize ownFrom + addressSize (bits w 14 2)
-  source-size = rw source-bits w known at (from-size (bit w 6) (modeIn (bits w 14 2)))
+  source-size = rw (source-bits w known) at (from-size (bit w 6) (modeIn (bits w 14 2)))
 
   -- places
   pub addresses-end : addressesEnd header ≡ sourceEnd w
@@ -116,7 +116,5 @@ module _ (s : List ℕ) (p : Passed s (number s 0 2)) where
   pub part-whole : bit w 3 ≡ true → sourceEnd w + lengthIn s (sourceEnd w) ≤ length s
   part-whole on = let whole : headerEnd s w ≤ length s = p .whole in omega (arith, security-size s (sourceEnd w), simp on at whole)
 
-  pub length-told : Bytes s → headerLength header ≡ headerEnd s w
-  length-told b =
-      (λ i. addresses-end i + optionalLength (optionalIn (bit w 3) s (sourceEnd w)))
-      ∙ part-length (bit w 3) s (sourceEnd w) b part-whole
+  pub length-told : headerLength header ≡ headerEnd s w
+  length-told = (λ i. addresses-end i + optionalLength (optionalIn (bit w 3) s (sourceEnd w))) ∙ part-length (bit w 3) s (sourceEnd w)

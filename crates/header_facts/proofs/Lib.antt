@@ -1,5 +1,4 @@
-pub mod Back
+pub mod Fields
 pub mod Again
-pub mod RoundTrip
-pub mod Order
-pub mod Rewrite
+pub mod Back
+pub mod Trip

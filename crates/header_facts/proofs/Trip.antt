@@ -2,7 +2,7 @@
 -- Assumes nothing.
 use Prim.Native.Nat.{ℕ, _+_, _-_, _^_, _≤_, _<_}
 use native.Mathlib.Omega.{arith}
-use mathlib.Core.Bool.{Bool, true, false, not, _&&_}
+use mathlib.Core.Bool.{Bool, true, false, true≢false, cond, not, _&&_}
 use mathlib.Core.List.{List, _++_}
 use mathlib.Core.Path.{_≡_, refl, sym, ap, _∙_}
 use borrow.Author.Tests.{le-ltb}
@@ -18,6 +18,7 @@ use Rattle.octets.proofs.Little.{number-more, number-small}
 use Rattle.header_bytes.specs.Layout.{start, destinationEnd, sourceEnd, headerEnd, securitySize}
 use Rattle.header_bytes.specs.Rewriting.{sourceless}
 use Rattle.header_bytes.proofs.Passed.{Passed}
+use Rattle.header_bytes.proofs.Sizes.{control-inside}
 use Rattle.frame_control.specs.Control.{controlOf}
 use Rattle.frame_control.specs.Modes.{modeIn, modeBits}
 use Rattle.identifiers.specs.PanId.{pan}
@@ -82,10 +83,176 @@ counter-there (Present k) = refl
 pub source-missing : (compress : Bool) (d s : OptionalAddress) → (compress && eqb (modeBits (modeOf d)) 0) ≡ false →
     (compress && not (bothPresent d s)) ≡ (compress && eqb (modeBits (modeOf s)) 0)
 source-missing false d s e = refl
-source-missing true Address.Absent s e = sym e ∙ absurd-end e
-  where
-    absurd-end : true ≡ false → false ≡ eqb (modeBits (modeOf s)) 0
-    absurd-end f = absurd (true≢false f)
+source-missing true Address.Absent s e = absurd (true≢false e)
 source-missing true (Address.Present d) Address.Absent e = refl
 source-missing true (Address.Present d) (Address.Present (Short p a)) e = refl
 source-missing true (Address.Present d) (Address.Present (Extended p a)) e = refl
+
+-- bytes behind an accepted header alter nothing
+module _ (s : List ℕ) (p : Passed s (number s 0 2)) (more : List ℕ) where
+  abbrev w : ℕ
+  w = number s 0 2
+
+  word-more : number (s ++ more) 0 2 ≡ w
+  word-more = number-more s more 0 2 (omega (arith, p .three))
+
+  destination-more : destinationIn (s ++ more) w ≡ destinationIn s w
+  destination-more =
+      address-more (ownTo s p) (pan 0) (modeIn (bits w 10 2)) s more (start (bit w 8)) (omega (arith, p .addresses, destination-size s p))
+
+  source-more : sourceIn (s ++ more) w ≡ sourceIn s w
+  source-more =
+      ap (λ (d : OptionalAddress). addressIn (ownFrom s p) (sharedPan d) (modeIn (bits w 14 2)) (s ++ more) (destinationEnd w)) destination-more
+      ∙ address-more (ownFrom s p) (sharedPan (destinationIn s w)) (modeIn (bits w 14 2)) s more (destinationEnd w)
+      (omega (arith, p .addresses, source-size s p))
+
+  end-more : headerEnd (s ++ more) w ≡ headerEnd s w
+  end-more =
+      cases (holds? (bit w 3))
+      (λ on.
+      let inside : sourceEnd w + 1 ≤ length s = omega (arith, control-inside w s on, p .whole) in
+      ap (λ (b : ℕ). cond (bit w 3) (sourceEnd w + securitySize (bits b 3 2)) (sourceEnd w)) (number-more s more (sourceEnd w) 1 inside))
+      (λ off. simp off)
+
+  passed-more : Passed (s ++ more) w
+  passed-more =
+      let longer : length (s ++ more) ≡ length s + length more = length-append s more in
+      record {
+        three = omega (arith, p .three);
+        version = p .version;
+        type = p .type;
+        destination = p .destination;
+        source = p .source;
+        shared = p .shared;
+        addresses = omega (arith, p .addresses);
+        whole = omega (arith, p .whole, end-more);
+      }
+
+  behind : readHeader (s ++ more) ≡ Read (headerIn s w) (headerEnd s w)
+  behind =
+      ap (readBy (s ++ more)) word-more
+      ∙ together (s ++ more) w passed-more
+      ∙ (λ i. Read
+      (headerOf (controlOf w) (number-more s more 2 1 (p .three) i) (destination-more i) (source-more i)
+      (part-more (bit w 3) s more (sourceEnd w) (part-whole s p) i))
+      (end-more i))
+
+module _ (s : List ℕ) (b : Bytes s) (p : Passed s (number s 0 2)) where
+  abbrev word : ℕ
+  word = number s 0 2
+
+  abbrev header : Header
+  header = headerIn s word
+
+  abbrev size : ℕ
+  size = headerEnd s word
+
+  facts : PartFacts (header .«auxiliary_security_header»)
+  facts = part-facts (bit word 3) s (sourceEnd word) b (part-whole s p)
+
+  small : Small header
+  small =
+      let destination = address-small (ownTo s p) (pan 0) (modeIn (bits word 10 2)) s (start (bit word 8)) b (omega arith)
+      (omega (arith, p .addresses, destination-size s p)) in
+      record {
+        seq = number-small s 2 1 b (p .three);
+        destination = destination;
+        source = address-small (ownFrom s p) (sharedPan (destinationIn s word)) (modeIn (bits word 14 2)) s (destinationEnd word) b
+            (shared-small (destinationIn s word) destination) (omega (arith, p .addresses, source-size s p));
+        security = facts .small;
+      }
+
+  shared : (bit word 6 && eqb (modeBits (modeOf (header .destination))) 0) ≡ false
+  shared = ap (λ (n : ℕ). bit word 6 && eqb n 0) (to-bits s p) ∙ p .shared
+
+  pub lacks : lacksAddress header ≡ sourceless word
+  lacks =
+      source-missing (bit word 6) (header .destination) (header .source) shared
+      ∙ ap (λ (n : ℕ). bit word 6 && eqb n 0) (from-bits s p)
+
+  accepted : (room : ℕ) → sourceless word ≡ false → size ≤ room → writeHeader header (ownCounter header) room ≡ Written size
+  unfolding writeHeader
+  accepted room e h =
+      let told = length-told s p in
+      let three : ltb room 3 ≡ false = le-ltb room 3 (omega (arith, told)) in
+      let addresses : ltb room (addressesEnd header) ≡ false = le-ltb room (addressesEnd header) (omega (arith, told)) in
+      let whole : ltb room (headerLength header) ≡ false = le-ltb room (headerLength header) (omega (arith, told)) in
+      simp (facts .level, three, lacks ∙ e, addresses, counter-there (header .«auxiliary_security_header»), whole) (ap Written told)
+
+  again : (more : List ℕ) → readHeader (rewritten header ++ more) ≡ Read (lost header) size
+  again more =
+      let d = destinationIn s word in
+      let source = ap (λ (own : Bool). sharing own (sharedPan d) (header .source)) (owns-from s p)
+      ∙ address-shares (ownFrom s p) (sharedPan d) (modeIn (bits word 14 2)) s (destinationEnd word) in
+      header-back header (counterOf (ownCounter header)) more small (facts .counter) (facts .level) shared
+      ∙ (λ i. Read (quiet header (source i) (facts .same i)) (length-told s p i))
+
+  long : length (rewritten header) ≡ size
+  long = header-length header (counterOf (ownCounter header)) ∙ length-told s p
+
+  settled : rewritten (lost header) ≡ rewritten header
+  unfolding headerBytes
+  settled = refl
+
+  once-more : (room : ℕ) → sourceless word ≡ false → size ≤ room → writeHeader (lost header) (ownCounter header) room ≡ Written size
+  unfolding writeHeader
+  once-more = accepted
+
+  points : Rewritten s header size
+  points = record {
+    within = p .whole;
+    occupied = length-told s p;
+    accepted = accepted;
+    written = header-again s b p;
+    long = long;
+    buffer = λ out to h. laid-parts out to (rewritten header) (omega (arith, long))
+        ∙ ap (λ (k : ℕ). take to out ++ (rewritten header ++ drop (to + k) out)) long;
+    again = again;
+    settled = settled;
+    once-more = once-more;
+    behind = behind s p;
+  }
+
+-- Demand 3, point by point.
+pub header-rewritten : (s : List ℕ) (h : Header) (n : ℕ) → Bytes s → readHeader s ≡ Read h n → Rewritten s h n
+header-rewritten s h n b e =
+    let q = apart s h n e in
+    let points : Rewritten s (headerIn s (number s 0 2)) (headerEnd s (number s 0 2)) = points s b (q .passed) in
+    rw (q .size) at (rw (q .header) at points)
+
+-- What reading answers does not depend on bytes behind an accepted header.
+pub unread : (s : List ℕ) (h : Header) (n : ℕ) (more : List ℕ) → readHeader s ≡ Read h n → readHeader (s ++ more) ≡ Read h n
+unread s h n more e = let q = apart s h n e in behind s (q .passed) more ∙ (λ i. Read (q .header i) (q .size i))
+
+-- an accepted writing stores the bytes
+left-stored : (h : Header) (n : ℕ) (out : List ℕ) (to : ℕ) → writeHeader h (ownCounter h) (length out - to) ≡ Written n →
+    headerLeft h out to ≡ laid out to (rewritten h)
+left-stored h n out to e = rw e
+
+-- Demand 3, with every byte of a buffer.
+pub round-trip : (s : List ℕ) (h : Header) (n : ℕ) (out : List ℕ) (to : ℕ) → Bytes s → readHeader s ≡ Read h n →
+    sourceless (number s 0 2) ≡ false → to + n ≤ length out →
+    RoundTrip s h n out to
+round-trip s h n out to b e both room =
+    let trip = header-rewritten s h n b e in
+    let accepted = trip .accepted (length out - to) both (omega arith) in
+    let left : headerLeft h out to ≡ laid out to (rewritten h) = left-stored h n out to accepted in
+    let parted = left ∙ trip .buffer out to room in
+    let place : length (take to out) ≡ to = length-take-le to out (omega arith) in
+    let same : length (headerLeft h out to) ≡ length out = ap length left ∙ laid-length out to (rewritten h) in
+    let once-more = trip .once-more (length (headerLeft h out to) - to) both (omega (arith, same)) in
+    record {
+      within = trip .within;
+      accepted = accepted;
+      long = ap length (sym (trip .written)) ∙ trip .long;
+      stored = parted ∙ ap (λ (l : List ℕ). take to out ++ (l ++ drop (to + n) out)) (trip .written);
+      again = ap (λ (l : List ℕ). readHeader (drop to l)) parted
+          ∙ ap readHeader (drop-at (take to out) (rewritten h ++ drop (to + n) out) to place)
+          ∙ trip .again (drop (to + n) out);
+      once-more = once-more;
+      settled = left-stored (lost h) n (headerLeft h out to) to once-more
+          ∙ (λ i. laid (left i) to (trip .settled i))
+          ∙ laid-again out to (rewritten h)
+          ∙ sym left;
+      behind = trip .behind;
+    }
