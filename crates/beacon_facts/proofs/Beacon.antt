@@ -24,8 +24,8 @@ use Rattle.pending.specs.Pending.{shortCountIn, extendedCountIn, pendingIn, pen
 use Rattle.pending.proofs.Pending.{pending-read}
 use Rattle.beacon.specs.declared.Beacon.{Beacon}
 use Rattle.beacon.specs.declared.BeaconRead.{BeaconRead}
-use Rattle.beacon.specs.Beacon.{pendingPlace, beaconOf, beaconIn, beaconLengthIn, beaconRefused, readBeacon, beaconBytes, beaconSize}
-use Rattle.beacon.specs.Beacon.{beaconTooLarge, writeBeacon}
+use Rattle.beacon.specs.Beacon.{pendingPlace, beaconOf, beaconIn, beaconLengthIn, beaconRefused, beaconAccepted, readBeacon, beaconBytes}
+use Rattle.beacon.specs.Beacon.{beaconSize, beaconTooLarge, writeBeacon}
 use Rattle.beacon.proofs.Content.{fitting}
 use Rattle.beacon_facts.specs.Cleared.{beaconCleared}
 use Rattle.beacon_facts.specs.Formats.{beacon}
@@ -67,7 +67,7 @@ module _ (s : List ℕ) (at : ℕ) where
 
   -- it is refused, or each part was there
   refused-or-found : (readBeacon s at ≡ beaconRefused)
-      ⊎ ((readBeacon s at ≡ beacon .accepts (beaconIn s at) (beaconLengthIn s at)) × Found s at)
+      ⊎ ((readBeacon s at ≡ beaconAccepted (beaconIn s at) (beaconLengthIn s at)) × Found s at)
   unfolding readBeacon
   refused-or-found =
       cases (holds? (eqb (readSuperframe s at .outcome .number) 0)) (λ one.
@@ -85,7 +85,7 @@ module _ (s : List ℕ) (at : ℕ) where
       (λ two. inl (simp (one, two))))
       (λ one. inl (simp one))
 
-  beacon-accepts : beaconLengthIn s at ≤ length s - at → readBeacon s at ≡ beacon .accepts (beaconIn s at) (beaconLengthIn s at)
+  beacon-accepts : beaconLengthIn s at ≤ length s - at → readBeacon s at ≡ beaconAccepted (beaconIn s at) (beaconLengthIn s at)
   unfolding readBeacon
   beacon-accepts h =
       let found = found-all h in
@@ -95,10 +95,10 @@ module _ (s : List ℕ) (at : ℕ) where
         pending-accepts s (pendingPlace s at) (found .pending),
       )
 
-  -- a beacon is refused exactly where its bytes are not all there
-  pub whole : readBeacon s at ≡ first ((ends s at (beaconLengthIn s at), beaconRefused) ∷ [])
-      (beacon .accepts (beaconIn s at) (beaconLengthIn s at))
-  whole =
+  -- a beacon is refused, only with 1, exactly where its bytes are not all there
+  pub beacon-reading : readBeacon s at ≡ first ((ends s at (beaconLengthIn s at), beaconRefused) ∷ [])
+      (beaconAccepted (beaconIn s at) (beaconLengthIn s at))
+  beacon-reading =
       cases (holds? (ends s at (beaconLengthIn s at)))
       (λ e. rw e (cases refused-or-found (λ r. r)
       (λ r. absurd (omega (arith, ltb-true (length s - at) (beaconLengthIn s at) e, all-found (r .1))))))
@@ -106,7 +106,7 @@ module _ (s : List ℕ) (at : ℕ) where
 
   -- what was read was there
   pub beacon-read : readBeacon s at .outcome .number ≡ 0 →
-      (readBeacon s at ≡ beacon .accepts (beaconIn s at) (beaconLengthIn s at)) × Found s at
+      (readBeacon s at ≡ beaconAccepted (beaconIn s at) (beaconLengthIn s at)) × Found s at
   beacon-read e =
       cases refused-or-found
       (λ r. let one : _≡_ {A = ℕ} 1 0 = ap (λ (r : BeaconRead). r .outcome .number) (sym r) ∙ e in absurd (omega arith))
@@ -256,7 +256,7 @@ module _ (x : Beacon) (typed : beacon .Typed x) (f : beaconTooLarge x ≡ false)
     unfolding beaconIn
     beacon-back = rw (superframe-part, slots-part, count-back, pending-part)
 
-    read-back : readBeacon stored at ≡ beacon .accepts (beacon .reset x) (beaconSize x)
+    read-back : readBeacon stored at ≡ beaconAccepted (beacon .reset x) (beaconSize x)
     read-back =
         beacon-accepts stored at
         (rw (length-back, length-append p (beaconBytes x ++ t), length-append (beaconBytes x) t, beacon-length) (omega arith))

@@ -1,12 +1,14 @@
 -- Demand 3 of a part follows from a few laws of it: what was read fits and is written as it stood, and what was written is read back.
 -- Assumes nothing.
-use Prim.Native.Nat.{ℕ, _-_, _≤_}
+use Prim.Native.Nat.{ℕ, _+_, _-_, _≤_}
+use native.Mathlib.Omega.{arith}
 use mathlib.Core.Bool.{false}
 use mathlib.Core.List.{List, _++_}
-use mathlib.Core.Path.{_≡_, sym, _∙_}
+use mathlib.Core.Path.{_≡_, sym, ap, _∙_}
 use borrow.Author.Tests.{le-ltb}
-use lib.ListN.{length}
+use lib.ListN.{length, take, drop}
 use Rattle.octets.specs.Little.{Bytes}
+use Rattle.octets.proofs.Buffer.{laid-parts}
 use Rattle.octets.proofs.Little.{bytes-append}
 use Rattle.octets.specs.Value.{writeValue}
 use Rattle.beacon_facts.specs.Format.{Format, Rewritten, Returned}
@@ -39,11 +41,15 @@ module _ {X R : Type 0} (F : Format X R) (laws : Laws F) where
   pub rewritten : (s : List ℕ) (at : ℕ) (x : X) (n : ℕ) → Bytes s → F .read s at ≡ F .accepts x n → Rewritten F s at x n
   rewritten s at x n b e =
       let k = laws .taken s at x n b e in
+      let long : length (F .bytes x) ≡ n = laws .returned x (k .typed) (k .fits) .long ∙ k .size in
       record {
         within = k .within;
         accepted = λ out to room. rw (laws .writes x out to, k .fits, k .size, le-ltb (length out - to) n room);
-        long = laws .returned x (k .typed) (k .fits) .long ∙ k .size;
+        long = long;
         written = k .written;
+        buffer = λ out to room.
+            laid-parts out to (F .bytes x) (omega (arith, long))
+            ∙ ap (λ (j : ℕ). take to out ++ (F .bytes x ++ drop (to + j) out)) long;
         again = again s at x n k;
         settled = λ p t bp bt h.
             sym (laws .taken (p ++ (F .bytes x ++ t)) (length p) x n

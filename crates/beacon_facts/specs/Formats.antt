@@ -18,7 +18,8 @@ use Rattle.pending.specs.declared.{PendingAddress.PendingAddress, PendingRead.P
 use Rattle.pending.specs.Addresses.{emptyShort, emptyExtended}
 use Rattle.pending.specs.Pending.{pendingOf, readPending, pendingBytes, pendingSize, pendingTooLarge, writePending}
 use Rattle.beacon.specs.declared.{Beacon.Beacon, BeaconRead.BeaconRead}
-use Rattle.beacon.specs.Beacon.{beaconOf, readBeacon, beaconBytes, beaconSize, beaconTooLarge, writeBeacon}
+use Rattle.beacon.specs.Beacon.{beaconOf, beaconAccepted, readBeacon, beaconBytes, beaconSize, beaconTooLarge}
+use Rattle.beacon.specs.Beacon.{writeBeacon}
 use Rattle.beacon_facts.specs.Cleared.{superframeCleared, descriptorCleared, timeSlotsCleared, pendingCleared}
 use Rattle.beacon_facts.specs.Cleared.{beaconCleared}
 use Rattle.beacon_facts.specs.Format.{Format}
@@ -119,7 +120,7 @@ abbrev pub beacon : Format Beacon BeaconRead
 beacon =
     record {
       read = readBeacon;
-      accepts = λ x n. record { outcome = accepted n; beacon = x };
+      accepts = beaconAccepted;
       write = writeBeacon;
       tooLarge = beaconTooLarge;
       bytes = beaconBytes;
