@@ -10,3 +10,4 @@ pub mod Accepted
 pub mod Part
 pub mod Value
 pub mod Stored
+pub mod Decided

@@ -4,13 +4,17 @@
 use Prim.Native.Nat.{ℕ, zero, suc, _+_, _-_, _*_, _/_, _%_, _^_, _≤_, _<_}
 use native.Mathlib.Nat.{mul-assoc, pow-suc, pow-succ'}
 use native.Mathlib.Omega.{arith}
+use mathlib.Core.Bool.{cond}
 use mathlib.Core.List.{List, [], _∷_, _++_}
 use mathlib.Core.Path.{_≡_, refl, sym, ap, _∙_}
 use mir.Syntax.{w8}
 use mir.Val.{Fits}
-use lib.ListN.{length, getD, take, drop, length-drop, List·getD-eq-default}
-use lib.Seq.{drop-at, take-at, length-take-le, drop-append-le, take-append-le, take-add, drop-drop, drop-nil}
+use borrow.Author.Tests.{ltb-true, leb-true, leb-false}
+use lib.Dec.{ltb, leb}
+use lib.ListN.{length, getD, take, drop, length-drop, drop-of-length-le}
+use lib.Seq.{drop-at, take-at, take-all, take-nil, length-take-le, drop-append-le, take-append-le, take-add, drop-drop, drop-nil}
 use Rattle.octets.specs.Little.{join, split, number, Bytes}
+use Rattle.octets.proofs.Cases.{cases, holds?}
 
 -- bytes are bytes in every part of a list
 pub bytes-take : (n : ℕ) (s : List ℕ) → Bytes s → Bytes (take n s)
@@ -85,14 +89,40 @@ number-one (x ∷ s) zero = omega arith
 number-one (x ∷ s) (suc at) = number-one s at
 
 -- past the end of a list
-pub number-past : (s : List ℕ) (at : ℕ) → length s ≤ at → number s at 1 ≡ 0
-number-past s at h = number-one s at ∙ List·getD-eq-default s 0 h
+pub number-past : (s : List ℕ) (at n : ℕ) → length s ≤ at → number s at n ≡ 0
+unfolding number join
+number-past s at n h = rw (drop-of-length-le s h, take-nil n)
 
-pub number-join : (s : List ℕ) (at m n : ℕ) → at + m ≤ length s → number s at (m + n) ≡ number s at m + 256 ^ m * number s (at + m) n
+-- a place n bytes on, or where the list ends, whichever comes first
+pub number-behind : (s : List ℕ) (at n k : ℕ) →
+    number s (cond (ltb (length s - at) n) (length s) (at + n)) k ≡ number s (at + n) k
+number-behind s at n k =
+    cases (holds? (ltb (length s - at) n))
+    (λ t.
+    let h : length s - at < n = ltb-true _ _ t in
+    simp t (number-past s (length s) k (omega arith) ∙ sym (number-past s (at + n) k (omega arith))))
+    (λ t. simp t)
+
+-- two parts of a number, where the first is there, and where it is not
+join-there : (s : List ℕ) (at m n : ℕ) → at + m ≤ length s → number s at (m + n) ≡ number s at m + 256 ^ m * number s (at + m) n
 unfolding number
-number-join s at m n h =
+join-there s at m n h =
     let k : length (take m (drop at s)) ≡ m = length-take-le m (drop at s) (rw length-drop (omega arith)) in
     rw (take-add m n (drop at s), join-append (take m (drop at s)), k, drop-drop m at s)
+
+number-all : (s : List ℕ) (at m : ℕ) → length s ≤ at + m → number s at m ≡ join (drop at s)
+unfolding number
+number-all s at m h = ap join (take-all m (drop at s) (rw length-drop (omega arith)))
+
+join-past : (s : List ℕ) (at m n : ℕ) → length s ≤ at + m → number s at (m + n) ≡ number s at m + 256 ^ m * number s (at + m) n
+join-past s at m n h =
+    rw (number-past s (at + m) n h, number-all s at m h, number-all s at (m + n) (omega arith)) (omega arith)
+
+pub number-join : (s : List ℕ) (at m n : ℕ) → number s at (m + n) ≡ number s at m + 256 ^ m * number s (at + m) n
+number-join s at m n =
+    cases (holds? (leb (at + m) (length s)))
+    (λ t. join-there s at m n (leb-true _ _ t))
+    (λ t. let h : length s < at + m = leb-false _ _ t in join-past s at m n (omega arith))
 
 -- read back from what was written
 pub number-back : (p : List ℕ) (at n v : ℕ) (t : List ℕ) → length p ≡ at → v < 256 ^ n → number (p ++ (split n v ++ t)) at n ≡ v

@@ -1,7 +1,7 @@
-// Little-endian numbers at a place of a slice, read and stored, and what an answer says in document 01's numbers. The
-// functions that ask for room (`requires`) are building blocks of this project's readers and writers, which measure
-// first.
-ghost use Rattle.octets.specs.Words.{_+_, _-_, _≤_, _<_, min, _≡_, length};
+// Little-endian numbers at a place of a slice, read and stored, and what an answer says in document 01's numbers. No
+// function asks anything: bytes past the end of a slice count as 0 where they are read, and are dropped where they are
+// stored. Readers and writers measure first.
+ghost use Rattle.octets.specs.Words.{_+_, _-_, _≤_, _<_, min, cond, _≡_, ltb, length};
 ghost use Rattle.octets.specs.Bits.{bitOf};
 ghost use Rattle.octets.specs.Buffer.{laid, after, fitting};
 ghost use Rattle.octets.specs.Little.{split, number};
@@ -89,52 +89,62 @@ fn wide(b: u8) -> u16
     b as u16
 }
 
-// The byte at a place. Asks that it is there.
+// The byte at a place, 0 past the end.
 pub fn u8_at(s: &[u8], at: usize) -> u8
-    requires { ⌜ at + 1 ≤ length (now s) ⌝ }
     ensures { λ r. ⌜ r ≡ number (now (s .entry)) at 1 ⌝ }
 {
-    s[at]
+    if at < s.len() { s[at] } else { 0 }
 }
 
-// The number in two bytes. Asks that they are there.
+// The place n bytes behind another, or where s ends.
+pub fn behind(s: &[u8], at: usize, n: usize) -> usize
+    ensures { λ r. ⌜ r ≡ cond (ltb (length (now (s .entry)) - at) n) (length (now (s .entry))) (at + n) ⌝ }
+{
+    if left(s, at) < n { s.len() } else { at + n }
+}
+
+// The number in two bytes, those past the end 0.
 pub fn u16_at(s: &[u8], at: usize) -> u16
-    requires { ⌜ at + 2 ≤ length (now s) ⌝ }
     ensures { λ r. ⌜ r ≡ number (now (s .entry)) at 2 ⌝ }
 {
-    wide(s[at]) + 256 * wide(s[at + 1])
+    wide(u8_at(s, at)) + 256 * wide(u8_at(s, behind(s, at, 1)))
 }
 
-// The number in four bytes. Asks that they are there.
+// The number in four bytes, those past the end 0.
 pub fn u32_at(s: &[u8], at: usize) -> u32
-    requires { ⌜ at + 4 ≤ length (now s) ⌝ }
     ensures { λ r. ⌜ r ≡ number (now (s .entry)) at 4 ⌝ }
 {
-    (u16_at(s, at) as u32) + 0x1_0000 * (u16_at(s, at + 2) as u32)
+    (u16_at(s, at) as u32) + 0x1_0000 * (u16_at(s, behind(s, at, 2)) as u32)
 }
 
-// The number in eight bytes. Asks that they are there.
+// The number in eight bytes, those past the end 0.
 pub fn u64_at(s: &[u8], at: usize) -> u64
-    requires { ⌜ at + 8 ≤ length (now s) ⌝ }
     ensures { λ r. ⌜ r ≡ number (now (s .entry)) at 8 ⌝ }
 {
-    (u32_at(s, at) as u64) + 0x1_0000_0000 * (u32_at(s, at + 4) as u64)
+    (u32_at(s, at) as u64) + 0x1_0000_0000 * (u32_at(s, behind(s, at, 4)) as u64)
 }
 
-// Stores the n low bytes of v from at on, the lowest first, and returns the place behind them. Asks for that room.
+// The lesser of two numbers.
+pub fn least(a: usize, b: usize) -> usize
+    ensures { λ r. ⌜ r ≡ min a b ⌝ }
+{
+    if a < b { a } else { b }
+}
+
+// Stores the n low bytes of v from at on, the lowest first, as many as have room, and returns the place behind them.
 pub fn put(v: u64, n: usize, out: &mut [u8], at: usize) -> usize
-    requires { ⌜ n ≤ length (now out) - at ⌝ }
-    ensures { λ r. ⌜ r ≡ at + n ⌝ }
+    ensures { λ r. ⌜ r ≡ at + min n (length (now (out .entry)) - at) ⌝ }
     ensures { λ r. ⌜ now (out .exit) ≡ laid (now (out .entry)) at (split n v) ⌝ }
 {
+    let room = least(n, left(out, at));
     let mut rest = v;
     let mut i = 0;
-    while i < n {
+    while i < room {
         out[at + i] = (rest % 256) as u8;
         rest = rest / 256;
         i += 1;
     }
-    at + n
+    at + room
 }
 
 // Writes the n low bytes of v at a place, the lowest first, or nothing where they have no room.
@@ -147,13 +157,6 @@ pub fn write_number(v: u64, n: usize, out: &mut [u8], at: usize) -> PartWritten
     }
     put(v, n, out, at);
     PartWritten::Written(n)
-}
-
-// The lesser of two numbers.
-pub fn least(a: usize, b: usize) -> usize
-    ensures { λ r. ⌜ r ≡ min a b ⌝ }
-{
-    if a < b { a } else { b }
 }
 
 // Stores s from a place of out on, as much of it as has room, and returns the place behind it.

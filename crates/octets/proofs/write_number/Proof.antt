@@ -2,7 +2,6 @@
 -- Assumes nothing.
 use mathlib.Core.Path.{refl}
 use borrow.Author.Needs.{needs}
-use native.Mathlib.Omega.{arith}
 use Rattle.octets.proofs.Part.{fewer, enough}
 use Rattle.octets.proofs.write_number.Statement.{statement}
 use Rattle.octets.proofs.write_number.Tie as tie
@@ -18,5 +17,5 @@ written c =
 pub write-number-spec : {M : Type 1} → statement M
 write-number-spec =
     tie.close
-    (tie.spec (λ c κs. search needs) (λ c. search needs) full (λ c κs. omega (arith, c .before .before .left .ensures))
+    (tie.spec (λ c κs. search needs) (λ c. search needs) full (λ c κs. search needs)
     (λ c. search needs) written)
