@@ -17,18 +17,18 @@ use Rattle.beacon_facts.specs.Format.{Format, Rewritten, Returned}
 pub record Taken {X R : Type 0} (F : Format X R) (s : List ℕ) (at : ℕ) (x : X) (n : ℕ) : Type 0 where
   pub typed : F .Typed x
   pub fits : F .tooLarge x ≡ false
-  pub same : F .reset x ≡ x
+  pub same : F .readBack x ≡ x
   pub size : F .size x ≡ n
   pub within : n ≤ length s - at
   pub written : F .bytes x ≡ F .cleared s at
   pub behind : (t : List ℕ) → F .read (s ++ t) at ≡ F .accepts x n
 
 -- eight before one
-abbrev pub Written : {X R : Type 0} → Format X R → Type 0
-Written {X} F = (x : X) (out : List ℕ) (at : ℕ) → F .write x out at ≡ writeValue (F .tooLarge x) out at (F .size x)
+abbrev pub Writes : {X R : Type 0} → Format X R → Type 0
+Writes {X} F = (x : X) (out : List ℕ) (at : ℕ) → F .write x out at ≡ writeValue (F .tooLarge x) out at (F .size x)
 
 pub record Laws {X R : Type 0} (F : Format X R) : Type 0 where
-  pub writes : Written F
+  pub writes : Writes F
   pub taken : (s : List ℕ) (at : ℕ) (x : X) (n : ℕ) → Bytes s → F .read s at ≡ F .accepts x n → Taken F s at x n
   pub bytes : (x : X) → Bytes (F .bytes x)
   pub returned : (x : X) → F .Typed x → F .tooLarge x ≡ false → Returned F x

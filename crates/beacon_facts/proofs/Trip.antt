@@ -6,16 +6,17 @@ use native.Mathlib.Omega.{arith}
 use mathlib.Core.List.{List, [], _∷_, _++_}
 use mathlib.Core.Path.{_≡_, refl, sym, ap, _∙_}
 use lib.ListN.{length, set, take, drop}
-use lib.Seq.{sets, set-comm, set-set, length-sets, length-take-le}
+use lib.Seq.{sets, set-comm, set-set, length-take-le}
 use Rattle.octets.specs.Buffer.{laid}
 use Rattle.octets.specs.Little.{Bytes}
+use Rattle.octets.proofs.Buffer.{laid-length}
 use Rattle.octets.specs.declared.ValueWritten.the-variants.{Written}
 use Rattle.time_slots.specs.TimeSlots.{slotsLength, slotCountIn}
 use Rattle.beacon.specs.declared.Beacon.{Beacon}
 use Rattle.beacon.specs.declared.BeaconRead.{BeaconRead}
 use Rattle.beacon.specs.Beacon.{beaconLengthIn, beaconAccepted, readBeacon, beaconBytes, writeBeacon}
 use Rattle.beacon_facts.specs.Format.{FromBytes, FromRecord}
-use Rattle.beacon_facts.specs.RoundTrip.{RoundTrip, beaconLeft}
+use Rattle.beacon_facts.specs.RoundTrip.{RoundTrip, beaconAfter}
 use Rattle.beacon_facts.specs.Formats.{superframe, descriptor, timeSlots, pending, beacon}
 use Rattle.beacon_facts.proofs.Format.{rewritten}
 use Rattle.beacon_facts.proofs.Superframe.{superframe-laws}
@@ -79,25 +80,21 @@ laid-again l at (x ∷ b) =
     (set-before (set l at x) b at (suc at) x (omega arith) ∙ ap (λ (l : List ℕ). sets l (suc at) b) (set-set l at x x))
     ∙ laid-again (set l at x) (suc at) b
 
-laid-length : (l : List ℕ) (at : ℕ) (b : List ℕ) → length (laid l at b) ≡ length l
-unfolding laid
-laid-length l at b = length-sets l at b
-
 -- an accepted writing stores the bytes
-left-stored : (x : Beacon) (n : ℕ) (out : List ℕ) (to : ℕ) → writeBeacon x out to ≡ Written n →
-    beaconLeft x out to ≡ laid out to (beaconBytes x)
-left-stored x n out to e = rw e
+after-stored : (x : Beacon) (n : ℕ) (out : List ℕ) (to : ℕ) → writeBeacon x out to ≡ Written n →
+    beaconAfter x out to ≡ laid out to (beaconBytes x)
+after-stored x n out to e = rw e
 
 pub round-trip : (s : List ℕ) (at : ℕ) (x : Beacon) (n : ℕ) (out : List ℕ) (to : ℕ) → Bytes s → readBeacon s at ≡ beaconAccepted x n →
     to + n ≤ length out → RoundTrip s at x n out to
 round-trip s at x n out to b e room =
     let trip = beacon-rewritten s at x n b e in
     let accepted = trip .accepted out to (omega arith) in
-    let left : beaconLeft x out to ≡ laid out to (beaconBytes x) = left-stored x n out to accepted in
+    let left : beaconAfter x out to ≡ laid out to (beaconBytes x) = after-stored x n out to accepted in
     let parted = left ∙ trip .buffer out to room in
     let place : length (take to out) ≡ to = length-take-le to out (omega arith) in
-    let same : length (beaconLeft x out to) ≡ length out = rw left (laid-length out to (beaconBytes x)) in
-    let once-more : writeBeacon x (beaconLeft x out to) to ≡ Written n = trip .accepted (beaconLeft x out to) to (omega arith) in
+    let same : length (beaconAfter x out to) ≡ length out = rw left (laid-length out to (beaconBytes x)) in
+    let once-more : writeBeacon x (beaconAfter x out to) to ≡ Written n = trip .accepted (beaconAfter x out to) to (omega arith) in
     record {
       within = beacon-occupies s at x n e .2;
       accepted = accepted;
@@ -106,7 +103,7 @@ round-trip s at x n out to b e room =
       again = rw parted (rw place at (trip .again (take to out) (drop (to + n) out) (omega arith)));
       once-more = once-more;
       settled =
-          left-stored x n (beaconLeft x out to) to once-more
+          after-stored x n (beaconAfter x out to) to once-more
           ∙ rw left (laid-again out to (beaconBytes x));
       behind = trip .behind;
     }

@@ -20,7 +20,7 @@ pub record Format (X R : Type 0) : Type 1 where
   -- the bytes that stand at a place, with the bits cleared that are not read
   pub cleared : List ℕ → ℕ → List ℕ
   -- a value as it is read back, its unused places empty
-  pub reset : X → X
+  pub readBack : X → X
   -- what holds of every value of the Rattle type: numbers within their width, seven places
   pub Typed : X → Type 0
 
@@ -48,9 +48,9 @@ pub record Returned {X R : Type 0} (F : Format X R) (x : X) : Type 0 where
   pub long : length (F .bytes x) ≡ F .size x
   -- read back it is x with its unused places empty, which is written as x is: entries past a count are ignored
   pub back : (p t : List ℕ) → F .spare x ≤ length t →
-      F .read (p ++ (F .bytes x ++ t)) (length p) ≡ F .accepts (F .reset x) (F .size x)
-  pub fits : F .tooLarge (F .reset x) ≡ false
-  pub settled : F .bytes (F .reset x) ≡ F .bytes x
+      F .read (p ++ (F .bytes x ++ t)) (length p) ≡ F .accepts (F .readBack x) (F .size x)
+  pub fits : F .tooLarge (F .readBack x) ≡ false
+  pub settled : F .bytes (F .readBack x) ≡ F .bytes x
 
 -- demand 3, from the bytes and from the record
 abbrev pub FromBytes : {X R : Type 0} → Format X R → Type 0
