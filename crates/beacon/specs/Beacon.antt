@@ -40,6 +40,9 @@ refuses o = not (eqb (o .number) 0)
 abbrev pub beaconRefused : BeaconRead
 beaconRefused = record { outcome = refused 1; beacon = emptyBeacon }
 
+abbrev pub beaconAccepted : Beacon → ℕ → BeaconRead
+beaconAccepted x n = record { outcome = accepted n; beacon = x }
+
 unfoldable pub readBeacon : List ℕ → ℕ → BeaconRead
 readBeacon s at =
     first (
@@ -48,7 +51,7 @@ readBeacon s at =
     (refuses (readPending s (pendingPlace s at) .outcome), beaconRefused) ∷
     []
     )
-    (record { outcome = accepted (beaconLengthIn s at); beacon = beaconIn s at })
+    (beaconAccepted (beaconIn s at) (beaconLengthIn s at))
 
 -- the bytes, and how many they are
 unfoldable pub beaconBytes : Beacon → List ℕ

@@ -1,4 +1,5 @@
-// A beacon's content: superframe specification, GTS information and pending addresses, side by side.
+// A beacon's content: superframe specification, GTS information and pending addresses, side by side. No public function
+// asks anything; writing measures before it calls those that do (`requires`).
 ghost use Rattle.octets.specs.Words.{_+_, _-_, _≤_, false, _≡_, length};
 ghost use Rattle.octets.specs.Buffer.{laid, after};
 ghost use Rattle.octets.specs.Value.{valueOutcome};
@@ -120,19 +121,19 @@ impl Beacon {
         2 + slots.size() + pending.size()
     }
 
-    // Stores it and returns the place behind it. Asks that no number is too large, and for that room.
-    fn put(self, out: &mut [u8], at: usize) -> usize
+    // Stores it, part by part. Asks that no number is too large, and for that room.
+    fn put(self, out: &mut [u8], at: usize)
         requires { ⌜ beaconTooLarge self ≡ false ⌝ }
         requires { ⌜ beaconSize self ≤ length (now out) - at ⌝ }
-        ensures { λ r. ⌜ r ≡ at + beaconSize self ⌝ }
         ensures { λ r. ⌜ now (out .exit) ≡ laid (now (out .entry)) at (beaconBytes self) ⌝ }
     {
         let superframe = self.superframe_spec;
         let slots = self.guaranteed_time_slot_info;
         let pending = self.pending_address;
-        let next = superframe.put(out, at);
-        let next = slots.put(out, next);
-        pending.put(out, next)
+        superframe.write(out, at);
+        let next = at + 2;
+        slots.write(out, next);
+        pending.write(out, next + slots.size());
     }
 
     // Writes it at a place; refused, out keeps every byte.

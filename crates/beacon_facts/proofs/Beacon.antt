@@ -19,27 +19,27 @@ use Rattle.superframe.specs.Superframe.{superframeIn, readSuperframe, superfram
 use Rattle.superframe.proofs.Superframe.{superframe-length, superframe-read}
 use Rattle.time_slots.specs.TimeSlots.{slotsLength, slotsDemand, slotCountIn, timeSlotsIn, timeSlotsLengthIn, readTimeSlots, timeSlotsBytes}
 use Rattle.time_slots.specs.TimeSlots.{timeSlotsSize}
-use Rattle.time_slots.proofs.TimeSlots.{demand-enough, time-slots-read}
+use Rattle.time_slots.proofs.TimeSlots.{demand-enough, time-slots-length, time-slots-read}
 use Rattle.pending.specs.Pending.{shortCountIn, extendedCountIn, pendingIn, pendingLengthIn, readPending, pendingBytes}
 use Rattle.pending.proofs.Pending.{pending-read}
 use Rattle.beacon.specs.declared.Beacon.{Beacon}
 use Rattle.beacon.specs.declared.BeaconRead.{BeaconRead}
-use Rattle.beacon.specs.Beacon.{pendingPlace, beaconOf, beaconIn, beaconLengthIn, beaconRefused, readBeacon, beaconBytes, beaconSize}
-use Rattle.beacon.specs.Beacon.{beaconTooLarge, writeBeacon}
+use Rattle.beacon.specs.Beacon.{pendingPlace, beaconOf, beaconIn, beaconLengthIn, beaconRefused, beaconAccepted, readBeacon, beaconBytes}
+use Rattle.beacon.specs.Beacon.{beaconSize, beaconTooLarge, writeBeacon}
 use Rattle.beacon.proofs.Content.{fitting}
 use Rattle.beacon_facts.specs.Cleared.{beaconCleared}
 use Rattle.beacon_facts.specs.Formats.{beacon}
-use Rattle.beacon_facts.proofs.Format.{Written, Laws}
+use Rattle.beacon_facts.proofs.Format.{Writes, Laws}
 use Rattle.beacon_facts.proofs.Listed.{superframe-listed, time-slots-listed, pending-listed, beacon-listed}
 use Rattle.beacon_facts.proofs.Places.{over, past, past-length}
 use Rattle.beacon_facts.proofs.Superframe.{superframe-fits, superframe-again, superframe-more, superframe-back, superframe-accepts}
 use Rattle.beacon_facts.proofs.Superframe.{superframe-laws}
 use Rattle.beacon_facts.proofs.TimeSlots.{time-slots-fit, time-slots-same, time-slots-typed, time-slots-again, count-more}
-use Rattle.beacon_facts.proofs.TimeSlots.{time-slots-more, count-stored, time-slots-back, time-slots-length, time-slots-bytes}
-use Rattle.beacon_facts.proofs.TimeSlots.{time-slots-reset-fits, time-slots-settled, time-slots-accepts}
+use Rattle.beacon_facts.proofs.TimeSlots.{time-slots-more, count-stored, time-slots-back, time-slots-bytes}
+use Rattle.beacon_facts.proofs.TimeSlots.{time-slots-back-fits, time-slots-settled, time-slots-accepts}
 use Rattle.beacon_facts.proofs.Pending.{pending-fits, pending-same, pending-typed, pending-again, counts-more, pending-more}
 use Rattle.beacon_facts.proofs.Pending.{shorts-stored, extendeds-stored, pending-back, pending-length, pending-bytes}
-use Rattle.beacon_facts.proofs.Pending.{pending-reset-fits, pending-settled, pending-accepts}
+use Rattle.beacon_facts.proofs.Pending.{pending-back-fits, pending-settled, pending-accepts}
 
 -- each part was there
 pub record Found (s : List ℕ) (at : ℕ) : Type 0 where
@@ -67,7 +67,7 @@ module _ (s : List ℕ) (at : ℕ) where
 
   -- it is refused, or each part was there
   refused-or-found : (readBeacon s at ≡ beaconRefused)
-      ⊎ ((readBeacon s at ≡ beacon .accepts (beaconIn s at) (beaconLengthIn s at)) × Found s at)
+      ⊎ ((readBeacon s at ≡ beaconAccepted (beaconIn s at) (beaconLengthIn s at)) × Found s at)
   unfolding readBeacon
   refused-or-found =
       cases (holds? (eqb (readSuperframe s at .outcome .number) 0)) (λ one.
@@ -85,7 +85,7 @@ module _ (s : List ℕ) (at : ℕ) where
       (λ two. inl (simp (one, two))))
       (λ one. inl (simp one))
 
-  beacon-accepts : beaconLengthIn s at ≤ length s - at → readBeacon s at ≡ beacon .accepts (beaconIn s at) (beaconLengthIn s at)
+  beacon-accepts : beaconLengthIn s at ≤ length s - at → readBeacon s at ≡ beaconAccepted (beaconIn s at) (beaconLengthIn s at)
   unfolding readBeacon
   beacon-accepts h =
       let found = found-all h in
@@ -95,10 +95,10 @@ module _ (s : List ℕ) (at : ℕ) where
         pending-accepts s (pendingPlace s at) (found .pending),
       )
 
-  -- a beacon is refused exactly where its bytes are not all there
-  pub whole : readBeacon s at ≡ first ((ends s at (beaconLengthIn s at), beaconRefused) ∷ [])
-      (beacon .accepts (beaconIn s at) (beaconLengthIn s at))
-  whole =
+  -- a beacon is refused, only with 1, exactly where its bytes are not all there
+  pub beacon-reading : readBeacon s at ≡ first ((ends s at (beaconLengthIn s at), beaconRefused) ∷ [])
+      (beaconAccepted (beaconIn s at) (beaconLengthIn s at))
+  beacon-reading =
       cases (holds? (ends s at (beaconLengthIn s at)))
       (λ e. rw e (cases refused-or-found (λ r. r)
       (λ r. absurd (omega (arith, ltb-true (length s - at) (beaconLengthIn s at) e, all-found (r .1))))))
@@ -106,7 +106,7 @@ module _ (s : List ℕ) (at : ℕ) where
 
   -- what was read was there
   pub beacon-read : readBeacon s at .outcome .number ≡ 0 →
-      (readBeacon s at ≡ beacon .accepts (beaconIn s at) (beaconLengthIn s at)) × Found s at
+      (readBeacon s at ≡ beaconAccepted (beaconIn s at) (beaconLengthIn s at)) × Found s at
   beacon-read e =
       cases refused-or-found
       (λ r. let one : _≡_ {A = ℕ} 1 0 = ap (λ (r : BeaconRead). r .outcome .number) (sym r) ∙ e in absurd (omega arith))
@@ -121,7 +121,7 @@ module _ (s : List ℕ) (at : ℕ) where
     unfolding beaconTooLarge beaconIn
     beacon-fits = rw (superframe-fits s at, time-slots-fit s (at + 2), pending-fits s (pendingPlace s at))
 
-    beacon-same : beacon .reset (beaconIn s at) ≡ beaconIn s at
+    beacon-same : beacon .readBack (beaconIn s at) ≡ beaconIn s at
     unfolding beaconIn
     beacon-same = λ i. beaconOf (superframeIn s at) (time-slots-same s (at + 2) i) (pending-same s (pendingPlace s at) i)
 
@@ -173,7 +173,7 @@ module _ (x : Beacon) (typed : beacon .Typed x) (f : beaconTooLarge x ≡ false)
   pending = pendingBytes (x .«pending_address»)
 
   slots-length : length slots ≡ timeSlotsSize (x .«guaranteed_time_slot_info»)
-  slots-length = time-slots-length (x .«guaranteed_time_slot_info») (typed .0) (fitting x f .slots) [] [] 0 refl
+  slots-length = time-slots-length (x .«guaranteed_time_slot_info») (typed .0 .0) (fitting x f .slots)
 
   pub beacon-length : length (beaconBytes x) ≡ beaconSize x
   unfolding beaconBytes
@@ -237,13 +237,13 @@ module _ (x : Beacon) (typed : beacon .Typed x) (f : beaconTooLarge x ≡ false)
         ap (λ (s : List ℕ). superframeIn s at) at-superframe
         ∙ superframe-back (x .«superframe_spec») p ((slots ++ pending) ++ t) at (fitting x f .superframe) refl
 
-    slots-part : timeSlotsIn stored (at + 2) ≡ beacon .reset x .«guaranteed_time_slot_info»
+    slots-part : timeSlotsIn stored (at + 2) ≡ beacon .readBack x .«guaranteed_time_slot_info»
     slots-part =
         ap (λ (s : List ℕ). timeSlotsIn s (at + 2)) at-slots
         ∙ time-slots-back (x .«guaranteed_time_slot_info») (typed .0) (fitting x f .slots) (p ++ superframe) (pending ++ t)
         (at + 2) behind-superframe
 
-    pending-part : pendingIn stored place ≡ beacon .reset x .«pending_address»
+    pending-part : pendingIn stored place ≡ beacon .readBack x .«pending_address»
     pending-part =
         ap (λ (s : List ℕ). pendingIn s place) at-pending
         ∙ pending-back (x .«pending_address») (typed .1) (fitting x f .pending) ((p ++ superframe) ++ slots) t place behind-slots
@@ -252,28 +252,28 @@ module _ (x : Beacon) (typed : beacon .Typed x) (f : beaconTooLarge x ≡ false)
     unfolding beaconLengthIn
     length-back = rw (count-back, shorts-back, extendeds-back)
 
-    beacon-back : beaconIn stored at ≡ beacon .reset x
+    beacon-back : beaconIn stored at ≡ beacon .readBack x
     unfolding beaconIn
     beacon-back = rw (superframe-part, slots-part, count-back, pending-part)
 
-    read-back : readBeacon stored at ≡ beacon .accepts (beacon .reset x) (beaconSize x)
+    read-back : readBeacon stored at ≡ beaconAccepted (beacon .readBack x) (beaconSize x)
     read-back =
         beacon-accepts stored at
         (rw (length-back, length-append p (beaconBytes x ++ t), length-append (beaconBytes x) t, beacon-length) (omega arith))
         ∙ rw (beacon-back, length-back)
 
 module _ (x : Beacon) (typed : beacon .Typed x) (f : beaconTooLarge x ≡ false) where
-  beacon-reset-fits : beaconTooLarge (beacon .reset x) ≡ false
+  beacon-back-fits : beaconTooLarge (beacon .readBack x) ≡ false
   unfolding beaconTooLarge
-  beacon-reset-fits =
+  beacon-back-fits =
       let fits = fitting x f in
       rw (
         fits .superframe,
-        time-slots-reset-fits (x .«guaranteed_time_slot_info») (typed .0) (fits .slots),
-        pending-reset-fits (x .«pending_address») (typed .1) (fits .pending),
+        time-slots-back-fits (x .«guaranteed_time_slot_info») (typed .0) (fits .slots),
+        pending-back-fits (x .«pending_address») (typed .1) (fits .pending),
       )
 
-  beacon-settled : beaconBytes (beacon .reset x) ≡ beaconBytes x
+  beacon-settled : beaconBytes (beacon .readBack x) ≡ beaconBytes x
   unfolding beaconBytes
   beacon-settled =
       let fits = fitting x f in
@@ -291,7 +291,7 @@ beacon-bytes x =
     (bytes-append (timeSlotsBytes (x .«guaranteed_time_slot_info»)) (pendingBytes (x .«pending_address»))
     (time-slots-bytes (x .«guaranteed_time_slot_info»)) (pending-bytes (x .«pending_address»)))
 
-pub beacon-writes : Written beacon
+beacon-writes : Writes beacon
 unfolding writeBeacon
 beacon-writes x out at = refl
 
@@ -321,7 +321,7 @@ beacon-laws =
       returned = λ x typed f. record {
         long = beacon-length x typed f;
         back = λ p t h. read-back x typed f p t;
-        fits = beacon-reset-fits x typed f;
+        fits = beacon-back-fits x typed f;
         settled = beacon-settled x typed f;
       };
     }

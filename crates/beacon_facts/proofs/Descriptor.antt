@@ -1,6 +1,6 @@
 -- Demand 3 of a slot's descriptor: its last byte put together again is the byte that was read.
 -- Assumes nothing.
-use Prim.Native.Nat.{ℕ, _+_, _-_, _*_, _/_, _%_, _≤_, _<_}
+use Prim.Native.Nat.{ℕ, _+_, _-_, _*_, _/_, _^_, _≤_, _<_}
 use native.Mathlib.Nat.{mod-eq-of-lt}
 use native.Mathlib.Omega.{arith}
 use mathlib.Core.Bool.{false}
@@ -22,18 +22,18 @@ use Rattle.time_slots.specs.Descriptor.{writeDescriptor}
 use Rattle.time_slots.proofs.Descriptor.{descriptor-length, fitting, descriptor-read}
 use Rattle.beacon_facts.specs.Cleared.{descriptorCleared}
 use Rattle.beacon_facts.specs.Formats.{descriptor, DescriptorTyped}
-use Rattle.beacon_facts.proofs.Format.{Written, Laws}
+use Rattle.beacon_facts.proofs.Format.{Writes, Laws}
 use Rattle.beacon_facts.proofs.Places.{byte-small, number-first, number-second}
 
-slot-again : (b : ℕ) → b < 256 → b % 16 + 16 * bits b 4 4 ≡ b
-slot-again = same (λ b. b % 16 + 16 * bits b 4 4) (λ b. b) 256 tt
+slot-again : (b : ℕ) → b < 256 → bits b 0 4 + 2 ^ 4 * bits b 4 4 ≡ b
+slot-again = same (λ b. bits b 0 4 + 2 ^ 4 * bits b 4 4) (λ b. b) 256 tt
 
 module _ (s : List ℕ) (at : ℕ) (d : Direction) where
   pub descriptor-fits : descriptorTooLarge (descriptorIn s at d) ≡ false
   unfolding descriptorTooLarge descriptorIn
   descriptor-fits =
       let b = number s (at + 2) 1 in
-      simp (le-ltb 15 (b % 16) (omega arith), le-ltb 15 (bits b 4 4) (omega arith))
+      simp (le-ltb 15 (bits b 0 4) (omega arith), le-ltb 15 (bits b 4 4) (omega arith))
 
   pub descriptor-again : Bytes s → 3 ≤ length s - at → descriptorBytes (descriptorIn s at d) ≡ take 3 (drop at s)
   unfolding descriptorBytes descriptorIn
@@ -61,7 +61,7 @@ pub descriptor-back : (x : GuaranteedTimeSlotDescriptor) (p t : List ℕ) (at : 
 unfolding descriptorBytes descriptorIn
 descriptor-back x p t at d typed f e =
     let fits = fitting x f in
-    let start : slotByte x % 16 ≡ x .«starting_slot» = omega arith in
+    let start : bits (slotByte x) 0 4 ≡ x .«starting_slot» = omega arith in
     let half : slotByte x / 16 ≡ x .length = omega arith in
     let length : bits (slotByte x) 4 4 ≡ x .length = rw half (mod-eq-of-lt (omega arith)) in
     simp (
@@ -81,20 +81,20 @@ unfolding readDescriptor
 accepts-there s at h = rw (le-ltb (length s - at) 3 h)
 
 -- read alone, its direction is the one that an unused place has
-same-in : (s : List ℕ) (at : ℕ) → descriptor .reset (descriptorIn s at Receive) ≡ descriptorIn s at Receive
+same-in : (s : List ℕ) (at : ℕ) → descriptor .readBack (descriptorIn s at Receive) ≡ descriptorIn s at Receive
 unfolding descriptorIn
 same-in s at = refl
 
 -- the direction is not looked at
-reset-fits : (x : GuaranteedTimeSlotDescriptor) → descriptorTooLarge x ≡ false → descriptorTooLarge (descriptor .reset x) ≡ false
+back-fits : (x : GuaranteedTimeSlotDescriptor) → descriptorTooLarge x ≡ false → descriptorTooLarge (descriptor .readBack x) ≡ false
 unfolding descriptorTooLarge
-reset-fits x f = f
+back-fits x f = f
 
-settled : (x : GuaranteedTimeSlotDescriptor) → descriptorBytes (descriptor .reset x) ≡ descriptorBytes x
+settled : (x : GuaranteedTimeSlotDescriptor) → descriptorBytes (descriptor .readBack x) ≡ descriptorBytes x
 unfolding descriptorBytes
 settled x = refl
 
-pub descriptor-writes : Written descriptor
+descriptor-writes : Writes descriptor
 unfolding writeDescriptor
 descriptor-writes x out at = refl
 
@@ -123,7 +123,7 @@ descriptor-laws =
       bytes = descriptor-bytes;
       returned = λ x typed f. record {
         long = descriptor-length x;
-        fits = reset-fits x f;
+        fits = back-fits x f;
         settled = settled x;
         back = λ p t h.
             accepts-there (p ++ (descriptorBytes x ++ t)) (length p)

@@ -1,12 +1,14 @@
 -- Demand 3 of a part follows from a few laws of it: what was read fits and is written as it stood, and what was written is read back.
 -- Assumes nothing.
-use Prim.Native.Nat.{ℕ, _-_, _≤_}
+use Prim.Native.Nat.{ℕ, _+_, _-_, _≤_}
+use native.Mathlib.Omega.{arith}
 use mathlib.Core.Bool.{false}
 use mathlib.Core.List.{List, _++_}
-use mathlib.Core.Path.{_≡_, sym, _∙_}
+use mathlib.Core.Path.{_≡_, sym, ap, _∙_}
 use borrow.Author.Tests.{le-ltb}
-use lib.ListN.{length}
+use lib.ListN.{length, take, drop}
 use Rattle.octets.specs.Little.{Bytes}
+use Rattle.octets.proofs.Buffer.{laid-parts}
 use Rattle.octets.proofs.Little.{bytes-append}
 use Rattle.octets.specs.Value.{writeValue}
 use Rattle.beacon_facts.specs.Format.{Format, Rewritten, Returned}
@@ -15,18 +17,18 @@ use Rattle.beacon_facts.specs.Format.{Format, Rewritten, Returned}
 pub record Taken {X R : Type 0} (F : Format X R) (s : List ℕ) (at : ℕ) (x : X) (n : ℕ) : Type 0 where
   pub typed : F .Typed x
   pub fits : F .tooLarge x ≡ false
-  pub same : F .reset x ≡ x
+  pub same : F .readBack x ≡ x
   pub size : F .size x ≡ n
   pub within : n ≤ length s - at
   pub written : F .bytes x ≡ F .cleared s at
   pub behind : (t : List ℕ) → F .read (s ++ t) at ≡ F .accepts x n
 
 -- eight before one
-abbrev pub Written : {X R : Type 0} → Format X R → Type 0
-Written {X} F = (x : X) (out : List ℕ) (at : ℕ) → F .write x out at ≡ writeValue (F .tooLarge x) out at (F .size x)
+abbrev pub Writes : {X R : Type 0} → Format X R → Type 0
+Writes {X} F = (x : X) (out : List ℕ) (at : ℕ) → F .write x out at ≡ writeValue (F .tooLarge x) out at (F .size x)
 
 pub record Laws {X R : Type 0} (F : Format X R) : Type 0 where
-  pub writes : Written F
+  pub writes : Writes F
   pub taken : (s : List ℕ) (at : ℕ) (x : X) (n : ℕ) → Bytes s → F .read s at ≡ F .accepts x n → Taken F s at x n
   pub bytes : (x : X) → Bytes (F .bytes x)
   pub returned : (x : X) → F .Typed x → F .tooLarge x ≡ false → Returned F x
@@ -39,11 +41,15 @@ module _ {X R : Type 0} (F : Format X R) (laws : Laws F) where
   pub rewritten : (s : List ℕ) (at : ℕ) (x : X) (n : ℕ) → Bytes s → F .read s at ≡ F .accepts x n → Rewritten F s at x n
   rewritten s at x n b e =
       let k = laws .taken s at x n b e in
+      let long : length (F .bytes x) ≡ n = laws .returned x (k .typed) (k .fits) .long ∙ k .size in
       record {
         within = k .within;
         accepted = λ out to room. rw (laws .writes x out to, k .fits, k .size, le-ltb (length out - to) n room);
-        long = laws .returned x (k .typed) (k .fits) .long ∙ k .size;
+        long = long;
         written = k .written;
+        buffer = λ out to room.
+            laid-parts out to (F .bytes x) (omega (arith, long))
+            ∙ ap (λ (j : ℕ). take to out ++ (F .bytes x ++ drop (to + j) out)) long;
         again = again s at x n k;
         settled = λ p t bp bt h.
             sym (laws .taken (p ++ (F .bytes x ++ t)) (length p) x n

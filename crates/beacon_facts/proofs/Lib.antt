@@ -8,4 +8,3 @@ pub mod TimeSlots
 pub mod Pending
 pub mod Beacon
 pub mod Trip
-pub mod Order

@@ -1,7 +1,7 @@
 -- Demand 3 of pending addresses: the header put together again is the byte that was read, bits 3 and 7 clear, and the addresses stand as
 -- they stood.
 -- Assumes nothing.
-use Prim.Native.Nat.{ℕ, _+_, _-_, _*_, _/_, _%_, _^_, _≤_, _<_}
+use Prim.Native.Nat.{ℕ, _+_, _-_, _*_, _/_, _^_, _≤_, _<_}
 use native.Mathlib.Nat.{mod-eq-of-lt}
 use native.Mathlib.Omega.{arith}
 use mathlib.Core.Bool.{false}
@@ -18,22 +18,22 @@ use Rattle.identifiers.specs.declared.ShortAddress.{ShortAddress}
 use Rattle.identifiers.specs.declared.ExtendedAddress.{ExtendedAddress}
 use Rattle.identifiers.specs.ShortAddress.{short}
 use Rattle.identifiers.specs.ExtendedAddress.{extended}
-use Rattle.seven_places.specs.Seven.{reset}
-use Rattle.seven_places.proofs.Seven.{seven-length, seven-same, seven-reset, seven-all, reset-in-use, each-length}
+use Rattle.seven_places.specs.Seven.{emptied}
+use Rattle.seven_places.proofs.Seven.{seven-length, seven-same, seven-emptied, seven-all, emptied-in-use, each-length}
 use Rattle.pending.specs.declared.PendingAddress.{PendingAddress}
 use Rattle.pending.specs.declared.PendingRead.{PendingRead}
 use Rattle.pending.specs.Addresses.{shortAt, extendedAt, emptyShort, emptyExtended, shortsIn, extendedsIn, shortBytes, extendedBytes}
 use Rattle.pending.specs.Pending.{shortCountIn, extendedCountIn, pendingIn, pendingLengthIn, readPending, pendingHeader, pendingBytes}
 use Rattle.pending.specs.Pending.{pendingSize, pendingTooLarge, writePending}
 use Rattle.pending.proofs.Pending.{fitting, pending-read}
-use Rattle.beacon_facts.specs.Formats.{pending, Seven, PendingTyped, pendingReset}
-use Rattle.beacon_facts.proofs.Format.{Written, Laws}
+use Rattle.beacon_facts.specs.Formats.{pending, SevenTyped, PendingTyped, pendingReadBack}
+use Rattle.beacon_facts.proofs.Format.{Writes, Laws}
 use Rattle.beacon_facts.proofs.Listed.{pendingListed, pending-listed}
 use Rattle.beacon_facts.proofs.Places.{split-one, byte-small, over, past, past-length, number-first}
 use Rattle.beacon_facts.proofs.SideBySide.{entries-again, entry-place, entry-at, each-bytes}
 
-header-again : (b : ℕ) → b < 256 → b % 8 + 16 * bits b 4 3 ≡ clear 3 1 (clear 7 1 b)
-header-again = same (λ b. b % 8 + 16 * bits b 4 3) (λ b. clear 3 1 (clear 7 1 b)) 256 tt
+header-again : (b : ℕ) → b < 256 → bits b 0 3 + 2 ^ 4 * bits b 4 3 ≡ clear 3 1 (clear 7 1 b)
+header-again = same (λ b. bits b 0 3 + 2 ^ 4 * bits b 4 3) (λ b. clear 3 1 (clear 7 1 b)) 256 tt
 
 -- addresses of w bytes side by side, written again and read back
 module _ (s : List ℕ) (at : ℕ) where
@@ -49,7 +49,7 @@ module _ (s : List ℕ) (at : ℕ) where
   extendeds-again n few b there = entries-again extendedBytes 8 s at n (extendedAt s at)
       (λ k h. number-again s (at + 8 * k) 8 b (omega arith)) emptyExtended few
 
-  shorts-typed : (n : ℕ) → Bytes s → at + 2 * n ≤ length s → Seven (λ (a : ShortAddress). a .0 < 256 ^ 2) emptyShort (shortsIn s at n)
+  shorts-typed : (n : ℕ) → Bytes s → at + 2 * n ≤ length s → SevenTyped (λ (a : ShortAddress). a .0 < 256 ^ 2) emptyShort (shortsIn s at n)
   unfolding shortAt
   shorts-typed n b there = (
     seven-length (shortAt s at) emptyShort n,
@@ -58,7 +58,7 @@ module _ (s : List ℕ) (at : ℕ) where
   )
 
   extendeds-typed : (n : ℕ) → Bytes s → at + 8 * n ≤ length s →
-      Seven (λ (a : ExtendedAddress). a .0 < 256 ^ 8) emptyExtended (extendedsIn s at n)
+      SevenTyped (λ (a : ExtendedAddress). a .0 < 256 ^ 8) emptyExtended (extendedsIn s at n)
   unfolding extendedAt
   extendeds-typed n b there = (
     seven-length (extendedAt s at) emptyExtended n,
@@ -90,16 +90,16 @@ module _ {A : Type 0} (value : A → ℕ) (w : ℕ) (empty : A) (l : List A) (n 
       (entry-at bytesOf w (λ x. split-length w (value x)) l n few k h empty p at before) small)
 
 module _ (p t : List ℕ) (at : ℕ) (before : length p ≡ at) where
-  shorts-back : (l : List ShortAddress) (n : ℕ) → n ≤ 7 → Seven (λ (a : ShortAddress). a .0 < 256 ^ 2) emptyShort l →
-      shortsIn (p ++ (flatMap shortBytes (take n l) ++ t)) at n ≡ reset l emptyShort n
+  shorts-back : (l : List ShortAddress) (n : ℕ) → n ≤ 7 → SevenTyped (λ (a : ShortAddress). a .0 < 256 ^ 2) emptyShort l →
+      shortsIn (p ++ (flatMap shortBytes (take n l) ++ t)) at n ≡ emptied l emptyShort n
   unfolding shortAt
   shorts-back l n few typed =
       seven-same (shortAt (p ++ (flatMap shortBytes (take n l) ++ t)) at) (λ (k : ℕ). getD l k emptyShort) emptyShort n
       (λ k h. ap short (address-back (λ (a : ShortAddress). a .0) 2 emptyShort l n (rw (typed .0) few) p t at before k h
       (typed .1 k (omega arith))))
 
-  extendeds-back : (l : List ExtendedAddress) (n : ℕ) → n ≤ 7 → Seven (λ (a : ExtendedAddress). a .0 < 256 ^ 8) emptyExtended l →
-      extendedsIn (p ++ (flatMap extendedBytes (take n l) ++ t)) at n ≡ reset l emptyExtended n
+  extendeds-back : (l : List ExtendedAddress) (n : ℕ) → n ≤ 7 → SevenTyped (λ (a : ExtendedAddress). a .0 < 256 ^ 8) emptyExtended l →
+      extendedsIn (p ++ (flatMap extendedBytes (take n l) ++ t)) at n ≡ emptied l emptyExtended n
   unfolding extendedAt
   extendeds-back l n few typed =
       seven-same (extendedAt (p ++ (flatMap extendedBytes (take n l) ++ t)) at) (λ (k : ℕ). getD l k emptyExtended) emptyExtended n
@@ -117,7 +117,7 @@ module _ (x : PendingAddress) (typed : PendingTyped x) (f : pendingTooLarge x �
   header-byte : pendingHeader x < 256
   header-byte = omega (arith, fitting x f)
 
-  short-count : pendingHeader x % 8 ≡ x .«short_address_count»
+  short-count : bits (pendingHeader x) 0 3 ≡ x .«short_address_count»
   short-count = omega (arith, fitting x f)
 
   extended-count : bits (pendingHeader x) 4 3 ≡ x .«extended_address_count»
@@ -159,7 +159,7 @@ module _ (x : PendingAddress) (typed : PendingTyped x) (f : pendingTooLarge x �
     behind-header = past-length p (split 1 (pendingHeader x)) at 1 before (split-length 1 (pendingHeader x))
 
     short-list : shortsIn (p ++ (pendingBytes x ++ t)) (at + 1) (x .«short_address_count»)
-        ≡ reset (x .«short_addresses») emptyShort (x .«short_address_count»)
+        ≡ emptied (x .«short_addresses») emptyShort (x .«short_address_count»)
     unfolding pendingBytes
     short-list =
         rw (past p (split 1 (pendingHeader x)) (shorts ++ extendeds) t, over header shorts extendeds t)
@@ -167,7 +167,7 @@ module _ (x : PendingAddress) (typed : PendingTyped x) (f : pendingTooLarge x �
         (typed .0))
 
     extended-list : extendedsIn (p ++ (pendingBytes x ++ t)) (at + 1 + 2 * x .«short_address_count») (x .«extended_address_count»)
-        ≡ reset (x .«extended_addresses») emptyExtended (x .«extended_address_count»)
+        ≡ emptied (x .«extended_addresses») emptyExtended (x .«extended_address_count»)
     unfolding pendingBytes
     extended-list =
         rw (past p (split 1 (pendingHeader x)) (shorts ++ extendeds) t, past header shorts extendeds t)
@@ -175,23 +175,23 @@ module _ (x : PendingAddress) (typed : PendingTyped x) (f : pendingTooLarge x �
         (past-length header shorts (at + 1) (2 * x .«short_address_count») behind-header shorts-length)
         (x .«extended_addresses») (x .«extended_address_count») (fitting x f .1) (typed .1))
 
-    pub pending-back : pendingIn (p ++ (pendingBytes x ++ t)) at ≡ pendingReset x
+    pub pending-back : pendingIn (p ++ (pendingBytes x ++ t)) at ≡ pendingReadBack x
     unfolding pendingIn
     pending-back = rw (shorts-stored, extendeds-stored, short-list, extended-list)
 
 -- an address past its count is not looked at
 module _ (x : PendingAddress) (typed : PendingTyped x) (f : pendingTooLarge x ≡ false) where
-  pub pending-reset-fits : pendingTooLarge (pendingReset x) ≡ false
+  pub pending-back-fits : pendingTooLarge (pendingReadBack x) ≡ false
   unfolding pendingTooLarge
-  pending-reset-fits = f
+  pending-back-fits = f
 
-  pub pending-settled : pendingBytes (pendingReset x) ≡ pendingBytes x
+  pub pending-settled : pendingBytes (pendingReadBack x) ≡ pendingBytes x
   unfolding pendingBytes
   pending-settled =
       let few = fitting x f in
       rw (
-        reset-in-use (x .«short_addresses») emptyShort (x .«short_address_count») (few .0) (rw (typed .0 .0) (few .0)),
-        reset-in-use (x .«extended_addresses») emptyExtended (x .«extended_address_count») (few .1) (rw (typed .1 .0) (few .1)),
+        emptied-in-use (x .«short_addresses») emptyShort (x .«short_address_count») (few .0) (rw (typed .0 .0) (few .0)),
+        emptied-in-use (x .«extended_addresses») emptyExtended (x .«extended_address_count») (few .1) (rw (typed .1 .0) (few .1)),
       )
 
 pub pending-bytes : (x : PendingAddress) → Bytes (pendingBytes x)
@@ -216,12 +216,12 @@ module _ (s : List ℕ) (at : ℕ) where
   unfolding pendingTooLarge pendingIn
   pending-fits = rw (le-ltb 7 shortCount (omega arith), le-ltb 7 extendedCount (omega arith))
 
-  pub pending-same : pendingReset (pendingIn s at) ≡ pendingIn s at
+  pub pending-same : pendingReadBack (pendingIn s at) ≡ pendingIn s at
   unfolding pendingIn
   pending-same =
       rw (
-        seven-reset (shortAt s (at + 1)) emptyShort shortCount (omega arith),
-        seven-reset (extendedAt s (at + 1 + 2 * shortCount)) emptyExtended extendedCount (omega arith),
+        seven-emptied (shortAt s (at + 1)) emptyShort shortCount (omega arith),
+        seven-emptied (extendedAt s (at + 1 + 2 * shortCount)) emptyExtended extendedCount (omega arith),
       )
 
   pub pending-size : pendingSize (pendingIn s at) ≡ pendingLengthIn s at
@@ -268,7 +268,7 @@ pub pending-accepts : (s : List ℕ) (at : ℕ) → pendingLengthIn s at ≤ len
 unfolding readPending
 pending-accepts s at h = rw (le-ltb (length s - at) 1 (omega arith), le-ltb (length s - at) (pendingLengthIn s at) h)
 
-pub pending-writes : Written pending
+pending-writes : Writes pending
 unfolding writePending
 pending-writes x out at = refl
 
@@ -296,7 +296,7 @@ pending-laws =
       bytes = pending-bytes;
       returned = λ x typed f. record {
         long = pending-length x typed f;
-        fits = pending-reset-fits x typed f;
+        fits = pending-back-fits x typed f;
         settled = pending-settled x typed f;
         back = λ p t h.
             let shorts = shorts-stored x typed f p t (length p) refl in

@@ -1,6 +1,6 @@
 -- Demand 3 of the superframe specification: each of its two bytes put together again is the byte that was read, bit 5 of the second clear.
 -- Assumes nothing.
-use Prim.Native.Nat.{ℕ, _+_, _-_, _*_, _/_, _%_, _≤_, _<_}
+use Prim.Native.Nat.{ℕ, _+_, _-_, _*_, _/_, _^_, _≤_, _<_}
 use native.Mathlib.Nat.{mod-eq-of-lt}
 use native.Mathlib.Omega.{arith}
 use mathlib.Core.Bool.{false}
@@ -21,17 +21,17 @@ use Rattle.superframe.specs.Superframe.{writeSuperframe}
 use Rattle.superframe.proofs.Orders.{beacon-order-back, beacon-order-again, superframe-order-back, superframe-order-again}
 use Rattle.superframe.proofs.Superframe.{superframe-length, fitting, superframe-read}
 use Rattle.beacon_facts.specs.Formats.{superframe}
-use Rattle.beacon_facts.proofs.Format.{Written, Laws}
+use Rattle.beacon_facts.proofs.Format.{Writes, Laws}
 use Rattle.beacon_facts.proofs.Listed.{superframeListed, superframe-listed}
 use Rattle.beacon_facts.proofs.Places.{split-one, byte-small, number-first, number-second}
 
 -- each byte, taken apart and put together again
-orders-again : (a : ℕ) → a < 256 → beaconOrderBits (beaconOrderOf (a % 16)) + 16 * superframeOrderBits (superframeOrderOf (bits a 4 4)) ≡ a
-orders-again = same (λ a. beaconOrderBits (beaconOrderOf (a % 16)) + 16 * superframeOrderBits (superframeOrderOf (bits a 4 4)))
+orders-again : (a : ℕ) → a < 256 → beaconOrderBits (beaconOrderOf (bits a 0 4)) + 2 ^ 4 * superframeOrderBits (superframeOrderOf (bits a 4 4)) ≡ a
+orders-again = same (λ a. beaconOrderBits (beaconOrderOf (bits a 0 4)) + 2 ^ 4 * superframeOrderBits (superframeOrderOf (bits a 4 4)))
     (λ a. a) 256 tt
 
-rest-again : (b : ℕ) → b < 256 → b % 16 + 16 * bitOf (bit b 4) + 64 * bitOf (bit b 6) + 128 * bitOf (bit b 7) ≡ clear 5 1 b
-rest-again = same (λ b. b % 16 + 16 * bitOf (bit b 4) + 64 * bitOf (bit b 6) + 128 * bitOf (bit b 7)) (clear 5 1) 256 tt
+rest-again : (b : ℕ) → b < 256 → bits b 0 4 + 2 ^ 4 * bitOf (bit b 4) + 2 ^ 6 * bitOf (bit b 6) + 2 ^ 7 * bitOf (bit b 7) ≡ clear 5 1 b
+rest-again = same (λ b. bits b 0 4 + 2 ^ 4 * bitOf (bit b 4) + 2 ^ 6 * bitOf (bit b 6) + 2 ^ 7 * bitOf (bit b 7)) (clear 5 1) 256 tt
 
 module _ (s : List ℕ) (at : ℕ) where
   pub superframe-fits : superframeTooLarge (superframeIn s at) ≡ false
@@ -40,9 +40,9 @@ module _ (s : List ℕ) (at : ℕ) where
       let a = number s at 1 in
       let b = number s (at + 1) 1 in
       simp (
-        beacon-order-again (a % 16) (omega arith) .1,
+        beacon-order-again (bits a 0 4) (omega arith) .1,
         superframe-order-again (bits a 4 4) (omega arith) .1,
-        le-ltb 15 (b % 16) (omega arith),
+        le-ltb 15 (bits b 0 4) (omega arith),
       )
 
   pub superframe-again : Bytes s → 2 ≤ length s - at → superframeBytes (superframeIn s at) ≡ superframeListed s at
@@ -70,10 +70,10 @@ superframe-back x p t at f e =
     let battery = bit-small (x .«battery_life_extension») in
     let coordinator = bit-small (x .«pan_coordinator») in
     let permit = bit-small (x .«association_permit») in
-    let beacon : ordersByte x % 16 ≡ beaconOrderBits (x .«beacon_order») = omega arith in
+    let beacon : bits (ordersByte x) 0 4 ≡ beaconOrderBits (x .«beacon_order») = omega arith in
     let half : ordersByte x / 16 ≡ superframeOrderBits (x .«superframe_order») = omega arith in
     let superframe : bits (ordersByte x) 4 4 ≡ superframeOrderBits (x .«superframe_order») = rw half (mod-eq-of-lt (omega arith)) in
-    let slot : restByte x % 16 ≡ x .«final_cap_slot» = omega arith in
+    let slot : bits (restByte x) 0 4 ≡ x .«final_cap_slot» = omega arith in
     let flags : restByte x / 16 ≡ bitOf (x .«battery_life_extension») + 4 * bitOf (x .«pan_coordinator») + 8 * bitOf
     (x .«association_permit») = omega arith in
     let four : bits (restByte x) 4 1 ≡ bitOf (x .«battery_life_extension») = rw flags (omega arith) in
@@ -104,7 +104,7 @@ pub superframe-accepts : (s : List ℕ) (at : ℕ) → 2 ≤ length s - at → r
 unfolding readSuperframe
 superframe-accepts s at h = rw (le-ltb (length s - at) 2 h)
 
-pub superframe-writes : Written superframe
+superframe-writes : Writes superframe
 unfolding writeSuperframe
 superframe-writes x out at = refl
 

@@ -1,7 +1,7 @@
 -- Demand 3 of GTS information: header and direction byte put together again are the bytes that were read but for the bits cleared, and the
 -- descriptors stand as they stood.
 -- Assumes nothing.
-use Prim.Native.Nat.{ℕ, zero, suc, _+_, _-_, _*_, _/_, _%_, _^_, _≤_, _<_}
+use Prim.Native.Nat.{ℕ, zero, suc, _+_, _-_, _*_, _/_, _^_, _≤_, _<_}
 use native.Mathlib.Nat.{mod-eq-of-lt}
 use native.Mathlib.Omega.{arith}
 use mathlib.Core.Bool.{false}
@@ -17,8 +17,8 @@ use Rattle.octets.specs.Little.{number, split, Bytes}
 use Rattle.octets.proofs.Bits.{bit-back, bit-small}
 use Rattle.octets.proofs.Each.{same}
 use Rattle.octets.proofs.Little.{split-length, split-bytes, bytes-append, number-more}
-use Rattle.seven_places.specs.Seven.{reset, some}
-use Rattle.seven_places.proofs.Seven.{seven-length, seven-same, seven-reset, seven-all, span, in-use, reset-in-use, span-fails, some-fails}
+use Rattle.seven_places.specs.Seven.{emptied, some}
+use Rattle.seven_places.proofs.Seven.{seven-length, seven-same, seven-emptied, seven-all, span, in-use, emptied-in-use, span-fails, some-fails}
 use Rattle.time_slots.specs.declared.Direction.{Direction}
 use Rattle.time_slots.specs.declared.Direction.the-variants.{Receive, Transmit}
 use Rattle.time_slots.specs.declared.GuaranteedTimeSlotDescriptor.{GuaranteedTimeSlotDescriptor}
@@ -30,10 +30,10 @@ use Rattle.time_slots.specs.declared.TimeSlotsRead.{TimeSlotsRead}
 use Rattle.time_slots.specs.TimeSlots.{slotsLength, slotsDemand, slotAt, slotsIn, slotCountIn, timeSlotsIn, timeSlotsLengthIn}
 use Rattle.time_slots.specs.TimeSlots.{readTimeSlots, directionsOf, listBytes, timeSlotsHeader, timeSlotsBytes, timeSlotsSize}
 use Rattle.time_slots.specs.TimeSlots.{timeSlotsTooLarge, writeTimeSlots}
-use Rattle.time_slots.proofs.TimeSlots.{length-some, demand-enough, direction-small, directions-small, list-some, list-length, fitting}
+use Rattle.time_slots.proofs.TimeSlots.{length-some, demand-enough, direction-small, directions-small, list-some, fitting, time-slots-length}
 use Rattle.time_slots.proofs.TimeSlots.{time-slots-read}
-use Rattle.beacon_facts.specs.Formats.{timeSlots, DescriptorTyped, TimeSlotsTyped, timeSlotsReset}
-use Rattle.beacon_facts.proofs.Format.{Written, Laws}
+use Rattle.beacon_facts.specs.Formats.{timeSlots, DescriptorTyped, TimeSlotsTyped, timeSlotsReadBack}
+use Rattle.beacon_facts.proofs.Format.{Writes, Laws}
 use Rattle.beacon_facts.proofs.Listed.{listListed, timeSlotsListed, time-slots-listed}
 use Rattle.beacon_facts.proofs.Places.{split-one, byte-small, past, past-length, number-first}
 use Rattle.beacon_facts.proofs.SideBySide.{entries-again, entry-place, entry-at, each-bytes}
@@ -67,8 +67,8 @@ marks-cleared (suc (suc (suc (suc (suc (suc zero)))))) h = same (λ w. marks w 0
 marks-cleared (suc (suc (suc (suc (suc (suc (suc zero))))))) h = same (λ w. marks w 0 7) (clear 7 1) 256 tt
 marks-cleared (suc (suc (suc (suc (suc (suc (suc (suc n)))))))) h = absurd (omega arith)
 
-header-again : (b : ℕ) → b < 256 → b % 8 + 128 * bitOf (bit b 7) ≡ clear 3 4 b
-header-again = same (λ b. b % 8 + 128 * bitOf (bit b 7)) (clear 3 4) 256 tt
+header-again : (b : ℕ) → b < 256 → bits b 0 3 + 2 ^ 7 * bitOf (bit b 7) ≡ clear 3 4 b
+header-again = same (λ b. bits b 0 3 + 2 ^ 7 * bitOf (bit b 7)) (clear 3 4) 256 tt
 
 -- the list of n slots whose directions stand at a place
 module _ (s : List ℕ) (at : ℕ) where
@@ -179,7 +179,7 @@ module _ (x : GuaranteedTimeSlotInformation) (few : x .«slot_count» ≤ 7) whe
   header-byte : timeSlotsHeader x < 256
   header-byte = omega (arith, bit-small (x .permit))
 
-  header-count : timeSlotsHeader x % 8 ≡ x .«slot_count»
+  header-count : bits (timeSlotsHeader x) 0 3 ≡ x .«slot_count»
   header-count = omega (arith, bit-small (x .permit))
 
   header-permit : bit (timeSlotsHeader x) 7 ≡ x .permit
@@ -200,7 +200,7 @@ module _ (x : GuaranteedTimeSlotInformation) (typed : TimeSlotsTyped x) (f : tim
   pub count-stored : slotCountIn written at ≡ x .«slot_count»
   count-stored = rw header-stored (header-count x (fitting x f .0))
 
-  slots-stored : slotsIn written (at + 1) (x .«slot_count») ≡ reset (x .slots) emptyDescriptor (x .«slot_count»)
+  slots-stored : slotsIn written (at + 1) (x .«slot_count») ≡ emptied (x .slots) emptyDescriptor (x .«slot_count»)
   unfolding timeSlotsBytes
   slots-stored =
       let n = x .«slot_count» in
@@ -211,18 +211,9 @@ module _ (x : GuaranteedTimeSlotInformation) (typed : TimeSlotsTyped x) (f : tim
       (slot-back (x .slots) n (typed .0) (fits .0) (typed .1) (fits .1) (p ++ split 1 (timeSlotsHeader x)) t (at + 1)
       (past-length p _ at 1 before (split-length 1 _)) k h))
 
-  pub time-slots-back : timeSlotsIn written at ≡ timeSlotsReset x
+  pub time-slots-back : timeSlotsIn written at ≡ timeSlotsReadBack x
   unfolding timeSlotsIn
   time-slots-back = rw (count-stored, slots-stored, header-stored, header-permit x (fitting x f .0))
-
-  pub time-slots-length : length (timeSlotsBytes x) ≡ timeSlotsSize x
-  unfolding timeSlotsBytes
-  time-slots-length =
-      rw (
-        length-append (split 1 (timeSlotsHeader x)) (listBytes (take (x .«slot_count») (x .slots))),
-        split-length 1 (timeSlotsHeader x),
-        list-length (x .slots) (x .«slot_count») (rw (typed .0) (fitting x f .0)),
-      )
 
 list-bytes : (l : List GuaranteedTimeSlotDescriptor) → Bytes (listBytes l)
 unfolding listBytes
@@ -244,9 +235,9 @@ module _ (s : List ℕ) (at : ℕ) where
   unfolding timeSlotsTooLarge timeSlotsIn
   time-slots-fit = rw (le-ltb 7 (slotCountIn s at) count-few, slots-fit s (at + 1) (slotCountIn s at) count-few)
 
-  pub time-slots-same : timeSlotsReset (timeSlotsIn s at) ≡ timeSlotsIn s at
+  pub time-slots-same : timeSlotsReadBack (timeSlotsIn s at) ≡ timeSlotsIn s at
   unfolding timeSlotsIn
-  time-slots-same = rw (seven-reset (slotAt s (at + 1)) emptyDescriptor (slotCountIn s at) count-few)
+  time-slots-same = rw (seven-emptied (slotAt s (at + 1)) emptyDescriptor (slotCountIn s at) count-few)
 
   module _ (there : timeSlotsLengthIn s at ≤ length s - at) where
     list-there : at + 1 + slotsLength (slotCountIn s at) ≤ length s
@@ -287,14 +278,14 @@ module _ (s : List ℕ) (at : ℕ) where
 
 -- a slot past the count is not looked at
 module _ (x : GuaranteedTimeSlotInformation) (typed : TimeSlotsTyped x) (f : timeSlotsTooLarge x ≡ false) where
-  slots-in-use : take (x .«slot_count») (timeSlotsReset x .slots) ≡ take (x .«slot_count») (x .slots)
-  slots-in-use = reset-in-use (x .slots) emptyDescriptor (x .«slot_count») (fitting x f .0) (rw (typed .0) (fitting x f .0))
+  slots-in-use : take (x .«slot_count») (timeSlotsReadBack x .slots) ≡ take (x .«slot_count») (x .slots)
+  slots-in-use = emptied-in-use (x .slots) emptyDescriptor (x .«slot_count») (fitting x f .0) (rw (typed .0) (fitting x f .0))
 
-  pub time-slots-reset-fits : timeSlotsTooLarge (timeSlotsReset x) ≡ false
+  pub time-slots-back-fits : timeSlotsTooLarge (timeSlotsReadBack x) ≡ false
   unfolding timeSlotsTooLarge
-  time-slots-reset-fits = rw slots-in-use f
+  time-slots-back-fits = rw slots-in-use f
 
-  pub time-slots-settled : timeSlotsBytes (timeSlotsReset x) ≡ timeSlotsBytes x
+  pub time-slots-settled : timeSlotsBytes (timeSlotsReadBack x) ≡ timeSlotsBytes x
   unfolding timeSlotsBytes
   time-slots-settled = rw slots-in-use
 
@@ -307,7 +298,7 @@ size-in : (s : List ℕ) (at : ℕ) → timeSlotsSize (timeSlotsIn s at) ≡ tim
 unfolding timeSlotsIn
 size-in s at = refl
 
-pub time-slots-writes : Written timeSlots
+time-slots-writes : Writes timeSlots
 unfolding writeTimeSlots
 time-slots-writes x out at = refl
 
@@ -335,12 +326,12 @@ time-slots-laws =
           });
       bytes = time-slots-bytes;
       returned = λ x typed f. record {
-        long = time-slots-length x typed f [] [] 0 refl;
-        fits = time-slots-reset-fits x typed f;
+        long = time-slots-length x (typed .0) f;
+        fits = time-slots-back-fits x typed f;
         settled = time-slots-settled x typed f;
         back = λ p t h.
             let count = count-stored x typed f p t (length p) refl in
-            let long = time-slots-length x typed f [] [] 0 refl in
+            let long = time-slots-length x (typed .0) f in
             time-slots-accepts (p ++ (timeSlotsBytes x ++ t)) (length p)
             (rw (count, length-append p (timeSlotsBytes x ++ t), length-append (timeSlotsBytes x) t, long)
             (omega (arith, h, demand-enough (x .«slot_count»))))

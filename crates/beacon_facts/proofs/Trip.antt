@@ -1,15 +1,22 @@
--- Demand 3 for the beacon and each of its parts, from the bytes and from the record, and the length of a beacon.
+-- Demand 3 for the beacon and each of its parts, from the bytes and from the record; for the beacon with every byte of a buffer, and its
+-- length.
 -- Assumes nothing.
-use Prim.Native.Nat.{ℕ, _+_, _≤_}
+use Prim.Native.Nat.{ℕ, suc, _+_, _-_, _≤_, _<_}
 use native.Mathlib.Omega.{arith}
-use mathlib.Core.List.{List}
-use mathlib.Core.Path.{_≡_, sym, ap, _∙_}
-use lib.ListN.{length}
+use mathlib.Core.List.{List, [], _∷_, _++_}
+use mathlib.Core.Path.{_≡_, refl, sym, ap, _∙_}
+use lib.ListN.{length, set, take, drop}
+use lib.Seq.{sets, set-comm, set-set, length-take-le}
+use Rattle.octets.specs.Buffer.{laid}
+use Rattle.octets.specs.Little.{Bytes}
+use Rattle.octets.proofs.Buffer.{laid-length}
+use Rattle.octets.specs.declared.ValueWritten.the-variants.{Written}
 use Rattle.time_slots.specs.TimeSlots.{slotsLength, slotCountIn}
 use Rattle.beacon.specs.declared.Beacon.{Beacon}
 use Rattle.beacon.specs.declared.BeaconRead.{BeaconRead}
-use Rattle.beacon.specs.Beacon.{beaconLengthIn, readBeacon}
+use Rattle.beacon.specs.Beacon.{beaconLengthIn, beaconAccepted, readBeacon, beaconBytes, writeBeacon}
 use Rattle.beacon_facts.specs.Format.{FromBytes, FromRecord}
+use Rattle.beacon_facts.specs.RoundTrip.{RoundTrip, beaconAfter}
 use Rattle.beacon_facts.specs.Formats.{superframe, descriptor, timeSlots, pending, beacon}
 use Rattle.beacon_facts.proofs.Format.{rewritten}
 use Rattle.beacon_facts.proofs.Superframe.{superframe-laws}
@@ -49,7 +56,7 @@ pub beacon-returned : FromRecord beacon
 beacon-returned = beacon-laws .returned
 
 -- an accepted beacon occupies 4 to 96 bytes and never more than the input
-pub beacon-occupies : (s : List ℕ) (at : ℕ) (x : Beacon) (n : ℕ) → readBeacon s at ≡ beacon .accepts x n →
+pub beacon-occupies : (s : List ℕ) (at : ℕ) (x : Beacon) (n : ℕ) → readBeacon s at ≡ beaconAccepted x n →
     (4 ≤ n) × (n ≤ 96) × (at + n ≤ length s)
 unfolding beaconLengthIn
 beacon-occupies s at x n e =
@@ -57,3 +64,46 @@ beacon-occupies s at x n e =
     let count : beaconLengthIn s at ≡ n = ap (λ (r : BeaconRead). r .outcome .length) (sym (read .0) ∙ e) in
     let slots : slotsLength (slotCountIn s (at + 2)) ≤ 22 = few-length (slotCountIn s (at + 2)) (omega arith) in
     rw (sym count) (omega arith, omega arith, omega (arith, all-found s at (read .1)))
+
+-- storing the same bytes again changes nothing
+set-before : (l b : List ℕ) (i j x : ℕ) → i < j → set (sets l j b) i x ≡ sets (set l i x) j b
+set-before l [] i j x h = refl
+set-before l (y ∷ b) i j x h =
+    set-before (set l j y) b i (suc j) x (omega arith)
+    ∙ ap (λ (l : List ℕ). sets l (suc j) b) (set-comm l j i y x (λ e. omega arith))
+
+laid-again : (l : List ℕ) (at : ℕ) (b : List ℕ) → laid (laid l at b) at b ≡ laid l at b
+unfolding laid
+laid-again l at [] = refl
+laid-again l at (x ∷ b) =
+    ap (λ (l : List ℕ). sets l (suc at) b)
+    (set-before (set l at x) b at (suc at) x (omega arith) ∙ ap (λ (l : List ℕ). sets l (suc at) b) (set-set l at x x))
+    ∙ laid-again (set l at x) (suc at) b
+
+-- an accepted writing stores the bytes
+after-stored : (x : Beacon) (n : ℕ) (out : List ℕ) (to : ℕ) → writeBeacon x out to ≡ Written n →
+    beaconAfter x out to ≡ laid out to (beaconBytes x)
+after-stored x n out to e = rw e
+
+pub round-trip : (s : List ℕ) (at : ℕ) (x : Beacon) (n : ℕ) (out : List ℕ) (to : ℕ) → Bytes s → readBeacon s at ≡ beaconAccepted x n →
+    to + n ≤ length out → RoundTrip s at x n out to
+round-trip s at x n out to b e room =
+    let trip = beacon-rewritten s at x n b e in
+    let accepted = trip .accepted out to (omega arith) in
+    let left : beaconAfter x out to ≡ laid out to (beaconBytes x) = after-stored x n out to accepted in
+    let parted = left ∙ trip .buffer out to room in
+    let place : length (take to out) ≡ to = length-take-le to out (omega arith) in
+    let same : length (beaconAfter x out to) ≡ length out = rw left (laid-length out to (beaconBytes x)) in
+    let once-more : writeBeacon x (beaconAfter x out to) to ≡ Written n = trip .accepted (beaconAfter x out to) to (omega arith) in
+    record {
+      within = beacon-occupies s at x n e .2;
+      accepted = accepted;
+      long = ap length (sym (trip .written)) ∙ trip .long;
+      stored = parted ∙ ap (λ (l : List ℕ). take to out ++ (l ++ drop (to + n) out)) (trip .written);
+      again = rw parted (rw place at (trip .again (take to out) (drop (to + n) out) (omega arith)));
+      once-more = once-more;
+      settled =
+          after-stored x n (beaconAfter x out to) to once-more
+          ∙ rw left (laid-again out to (beaconBytes x));
+      behind = trip .behind;
+    }

@@ -1,8 +1,8 @@
 -- Demand 3 for any part that can be read and written: what is promised of a value that was read, and of a value that is
 -- written.
-use Rattle.octets.specs.Words.{ℕ, _-_, _≤_, Bool, false, List, _++_, _≡_, length}
+use Rattle.octets.specs.Words.{ℕ, _+_, _-_, _≤_, Bool, false, List, _++_, _≡_, length, take, drop}
 use Rattle.octets.specs.declared.{ValueWritten.ValueWritten}
-use Rattle.octets.specs.Little.{Bytes}
+use Rattle.octets.specs.{Buffer.laid, Little.Bytes}
 use Rattle.octets.specs.declared.ValueWritten.the-variants.{Written}
 
 -- the definitions of one part: values X, reader's answers R
@@ -20,7 +20,7 @@ pub record Format (X R : Type 0) : Type 1 where
   -- the bytes that stand at a place, with the bits cleared that are not read
   pub cleared : List ℕ → ℕ → List ℕ
   -- a value as it is read back, its unused places empty
-  pub reset : X → X
+  pub readBack : X → X
   -- what holds of every value of the Rattle type: numbers within their width, seven places
   pub Typed : X → Type 0
 
@@ -32,6 +32,9 @@ pub record Rewritten {X R : Type 0} (F : Format X R) (s : List ℕ) (at : ℕ) (
   pub accepted : (out : List ℕ) (to : ℕ) → n ≤ length out - to → F .write x out to ≡ Written n
   pub long : length (F .bytes x) ≡ n
   pub written : F .bytes x ≡ F .cleared s at
+  -- stored into a buffer, what lies before and behind them in it stays
+  pub buffer : (out : List ℕ) (to : ℕ) → to + n ≤ length out →
+      laid out to (F .bytes x) ≡ take to out ++ (F .bytes x ++ drop (to + n) out)
   -- read again, whatever stands before and behind, it is x and as long
   pub again : (p t : List ℕ) → F .spare x ≤ length t → F .read (p ++ (F .bytes x ++ t)) (length p) ≡ F .accepts x n
   -- and a second writing changes nothing
@@ -45,9 +48,9 @@ pub record Returned {X R : Type 0} (F : Format X R) (x : X) : Type 0 where
   pub long : length (F .bytes x) ≡ F .size x
   -- read back it is x with its unused places empty, which is written as x is: entries past a count are ignored
   pub back : (p t : List ℕ) → F .spare x ≤ length t →
-      F .read (p ++ (F .bytes x ++ t)) (length p) ≡ F .accepts (F .reset x) (F .size x)
-  pub fits : F .tooLarge (F .reset x) ≡ false
-  pub settled : F .bytes (F .reset x) ≡ F .bytes x
+      F .read (p ++ (F .bytes x ++ t)) (length p) ≡ F .accepts (F .readBack x) (F .size x)
+  pub fits : F .tooLarge (F .readBack x) ≡ false
+  pub settled : F .bytes (F .readBack x) ≡ F .bytes x
 
 -- demand 3, from the bytes and from the record
 abbrev pub FromBytes : {X R : Type 0} → Format X R → Type 0

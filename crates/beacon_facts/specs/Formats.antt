@@ -2,7 +2,7 @@
 use Rattle.octets.specs.Words.{ℕ, _-_, _^_, _<_, List, _≡_, length, getD}
 use Rattle.octets.specs.Outcome.{accepted}
 use Rattle.identifiers.specs.declared.{ShortAddress.ShortAddress, ExtendedAddress.ExtendedAddress}
-use Rattle.seven_places.specs.Seven.{reset}
+use Rattle.seven_places.specs.Seven.{emptied}
 use Rattle.superframe.specs.declared.{SuperframeSpecification.SuperframeSpecification, SuperframeRead.SuperframeRead}
 use Rattle.superframe.specs.Superframe.{readSuperframe, superframeBytes, superframeTooLarge, writeSuperframe}
 use Rattle.time_slots.specs.declared.{GuaranteedTimeSlotDescriptor.GuaranteedTimeSlotDescriptor}
@@ -18,7 +18,8 @@ use Rattle.pending.specs.declared.{PendingAddress.PendingAddress, PendingRead.P
 use Rattle.pending.specs.Addresses.{emptyShort, emptyExtended}
 use Rattle.pending.specs.Pending.{pendingOf, readPending, pendingBytes, pendingSize, pendingTooLarge, writePending}
 use Rattle.beacon.specs.declared.{Beacon.Beacon, BeaconRead.BeaconRead}
-use Rattle.beacon.specs.Beacon.{beaconOf, readBeacon, beaconBytes, beaconSize, beaconTooLarge, writeBeacon}
+use Rattle.beacon.specs.Beacon.{beaconOf, beaconAccepted, readBeacon, beaconBytes, beaconSize, beaconTooLarge}
+use Rattle.beacon.specs.Beacon.{writeBeacon}
 use Rattle.beacon_facts.specs.Cleared.{superframeCleared, descriptorCleared, timeSlotsCleared, pendingCleared}
 use Rattle.beacon_facts.specs.Cleared.{beaconCleared}
 use Rattle.beacon_facts.specs.Format.{Format}
@@ -34,13 +35,13 @@ superframe =
       size = λ x. 2;
       spare = λ x. 0;
       cleared = superframeCleared;
-      reset = λ x. x;
+      readBack = λ x. x;
       Typed = λ x. Unit;
     }
 
 -- a descriptor read alone is Receive
-abbrev pub descriptorReset : GuaranteedTimeSlotDescriptor → GuaranteedTimeSlotDescriptor
-descriptorReset x = descriptorOf (x .«short_address») (x .«starting_slot») (x .length) Receive
+abbrev pub descriptorReadBack : GuaranteedTimeSlotDescriptor → GuaranteedTimeSlotDescriptor
+descriptorReadBack x = descriptorOf (x .«short_address») (x .«starting_slot») (x .length) Receive
 
 abbrev pub DescriptorTyped : GuaranteedTimeSlotDescriptor → Type 0
 DescriptorTyped x = x .«short_address» .0 < 256 ^ 2
@@ -56,19 +57,19 @@ descriptor =
       size = λ x. 3;
       spare = λ x. 0;
       cleared = descriptorCleared;
-      reset = descriptorReset;
+      readBack = descriptorReadBack;
       Typed = DescriptorTyped;
     }
 
 -- seven entries, each as its type has it
-abbrev pub Seven : {A : Type 0} → (A → Type 0) → A → List A → Type 0
-Seven Typed empty l = (length l ≡ 7) × ((k : ℕ) → k < 7 → Typed (getD l k empty))
+abbrev pub SevenTyped : {A : Type 0} → (A → Type 0) → A → List A → Type 0
+SevenTyped Typed empty l = (length l ≡ 7) × ((k : ℕ) → k < 7 → Typed (getD l k empty))
 
-abbrev pub timeSlotsReset : GuaranteedTimeSlotInformation → GuaranteedTimeSlotInformation
-timeSlotsReset x = timeSlotsOf (x .permit) (x .«slot_count») (reset (x .slots) emptyDescriptor (x .«slot_count»))
+abbrev pub timeSlotsReadBack : GuaranteedTimeSlotInformation → GuaranteedTimeSlotInformation
+timeSlotsReadBack x = timeSlotsOf (x .permit) (x .«slot_count») (emptied (x .slots) emptyDescriptor (x .«slot_count»))
 
 abbrev pub TimeSlotsTyped : GuaranteedTimeSlotInformation → Type 0
-TimeSlotsTyped x = Seven DescriptorTyped emptyDescriptor (x .slots)
+TimeSlotsTyped x = SevenTyped DescriptorTyped emptyDescriptor (x .slots)
 
 abbrev pub timeSlots : Format GuaranteedTimeSlotInformation TimeSlotsRead
 timeSlots =
@@ -81,19 +82,19 @@ timeSlots =
       size = timeSlotsSize;
       spare = λ x. slotsDemand (x .«slot_count») - slotsLength (x .«slot_count»);
       cleared = timeSlotsCleared;
-      reset = timeSlotsReset;
+      readBack = timeSlotsReadBack;
       Typed = TimeSlotsTyped;
     }
 
-abbrev pub pendingReset : PendingAddress → PendingAddress
-pendingReset x =
-    pendingOf (x .«short_address_count») (reset (x .«short_addresses») emptyShort (x .«short_address_count»))
-    (x .«extended_address_count») (reset (x .«extended_addresses») emptyExtended (x .«extended_address_count»))
+abbrev pub pendingReadBack : PendingAddress → PendingAddress
+pendingReadBack x =
+    pendingOf (x .«short_address_count») (emptied (x .«short_addresses») emptyShort (x .«short_address_count»))
+    (x .«extended_address_count») (emptied (x .«extended_addresses») emptyExtended (x .«extended_address_count»))
 
 abbrev pub PendingTyped : PendingAddress → Type 0
 PendingTyped x =
-    Seven (λ (a : ShortAddress). a .0 < 256 ^ 2) emptyShort (x .«short_addresses»)
-    × Seven (λ (a : ExtendedAddress). a .0 < 256 ^ 8) emptyExtended (x .«extended_addresses»)
+    SevenTyped (λ (a : ShortAddress). a .0 < 256 ^ 2) emptyShort (x .«short_addresses»)
+    × SevenTyped (λ (a : ExtendedAddress). a .0 < 256 ^ 8) emptyExtended (x .«extended_addresses»)
 
 abbrev pub pending : Format PendingAddress PendingRead
 pending =
@@ -106,26 +107,26 @@ pending =
       size = pendingSize;
       spare = λ x. 0;
       cleared = pendingCleared;
-      reset = pendingReset;
+      readBack = pendingReadBack;
       Typed = PendingTyped;
     }
 
-abbrev pub beaconReset : Beacon → Beacon
-beaconReset x =
-    beaconOf (x .«superframe_spec») (timeSlotsReset (x .«guaranteed_time_slot_info»))
-    (pendingReset (x .«pending_address»))
+abbrev pub beaconReadBack : Beacon → Beacon
+beaconReadBack x =
+    beaconOf (x .«superframe_spec») (timeSlotsReadBack (x .«guaranteed_time_slot_info»))
+    (pendingReadBack (x .«pending_address»))
 
 abbrev pub beacon : Format Beacon BeaconRead
 beacon =
     record {
       read = readBeacon;
-      accepts = λ x n. record { outcome = accepted n; beacon = x };
+      accepts = beaconAccepted;
       write = writeBeacon;
       tooLarge = beaconTooLarge;
       bytes = beaconBytes;
       size = beaconSize;
       spare = λ x. 0;
       cleared = beaconCleared;
-      reset = beaconReset;
+      readBack = beaconReadBack;
       Typed = λ x. TimeSlotsTyped (x .«guaranteed_time_slot_info») × PendingTyped (x .«pending_address»);
     }

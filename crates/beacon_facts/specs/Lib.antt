@@ -1,4 +1,4 @@
 pub mod Cleared
 pub mod Format
 pub mod Formats
-pub mod Order
+pub mod RoundTrip

@@ -14,12 +14,12 @@ use Rattle.time_slots.specs.TimeSlots.{timeSlotsLengthIn}
 use Rattle.pending.specs.Pending.{pendingLengthIn}
 use Rattle.beacon.specs.declared.BeaconRead.{BeaconRead}
 use Rattle.beacon.specs.Beacon.{pendingPlace, beaconLengthIn, beaconRefused, readBeacon}
-use Rattle.beacon_facts.proofs.Beacon.{whole}
+use Rattle.beacon_facts.proofs.Beacon.{beacon-reading}
 
 told : (s : List ℕ) (at : ℕ) → readBeacon s at .outcome ≡ cond (ends s at (beaconLengthIn s at)) (refused 1)
     (accepted (beaconLengthIn s at))
 told s at =
-    ap (λ (r : BeaconRead). r .outcome) (whole s at)
+    ap (λ (r : BeaconRead). r .outcome) (beacon-reading s at)
     ∙ first-map (λ (r : BeaconRead). r .outcome) ((ends s at (beaconLengthIn s at), beaconRefused) ∷ []) _
 
 -- its bytes are not all there, or they are

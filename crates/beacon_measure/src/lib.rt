@@ -1,5 +1,5 @@
 // Number and length of the beacon at a place of a slice, told by the counts in its two headers. No record is made.
-ghost use Rattle.octets.specs.Words.{_+_, _≤_, _≡_, length};
+ghost use Rattle.octets.specs.Words.{_≤_, _≡_};
 ghost use Rattle.time_slots.specs.TimeSlots.{timeSlotsLengthIn};
 ghost use Rattle.pending.specs.Pending.{pendingLengthIn};
 ghost use Rattle.beacon.specs.Beacon.{readBeacon};
@@ -8,18 +8,16 @@ use octets::left;
 use octets::u8_at;
 use time_slots::slots_length;
 
-// Bytes of the GTS information at a place. Asks that its header is there.
+// Bytes of the GTS information at a place, by its header; 1 where that is not there.
 pub fn time_slots_length(s: &[u8], at: usize) -> usize
-    requires { ⌜ at + 1 ≤ length (now s) ⌝ }
     ensures { λ r. ⌜ r ≡ timeSlotsLengthIn (now (s .entry)) at ⌝ }
     ensures { λ r. ⌜ r ≤ 23 ⌝ }
 {
-    1 + slots_length((u8_at(s, at) as usize) % 8)
+    1 + slots_length(u8_at(s, at) % 8)
 }
 
-// Bytes of the pending addresses at a place. Asks that their header is there.
+// Bytes of the pending addresses at a place, by their header; 1 where that is not there.
 fn pending_length(s: &[u8], at: usize) -> usize
-    requires { ⌜ at + 1 ≤ length (now s) ⌝ }
     ensures { λ r. ⌜ r ≡ pendingLengthIn (now (s .entry)) at ⌝ }
     ensures { λ r. ⌜ r ≤ 71 ⌝ }
 {

@@ -2,7 +2,7 @@
 -- Assumes nothing.
 use Prim.Native.Nat.{ℕ, _-_, _≤_}
 use native.Mathlib.Omega.{arith}
-use mathlib.Core.Bool.{false}
+use mathlib.Core.Bool.{false, cond}
 use mathlib.Core.List.{List}
 use mathlib.Core.Path.{_≡_}
 use borrow.Author.Tests.{ltb-false}
@@ -11,7 +11,7 @@ use Rattle.octets.specs.Outcome.{accepted}
 use Rattle.octets.specs.Part.{ends}
 use Rattle.octets.proofs.Cases.{cases, holds?, neither}
 use Rattle.pending.specs.declared.PendingAddress.{PendingAddress}
-use Rattle.pending.specs.Pending.{pendingIn, pendingLengthIn, readPending, pendingTooLarge}
+use Rattle.pending.specs.Pending.{pendingIn, pendingLengthIn, readPending, pendingSize, pendingTooLarge}
 
 -- each count is at most seven
 pub fitting : (x : PendingAddress) → pendingTooLarge x ≡ false → (x .«short_address_count» ≤ 7) × (x .«extended_address_count» ≤ 7)
@@ -19,6 +19,10 @@ unfolding pendingTooLarge
 fitting x e =
     let both = neither _ _ e in
     (ltb-false 7 (x .«short_address_count») (both .0), ltb-false 7 (x .«extended_address_count») (both .1))
+
+-- and then its size is the whole length
+pub plain-size : (x : PendingAddress) → pendingTooLarge x ≡ false → cond (pendingTooLarge x) 0 (pendingSize x) ≡ pendingSize x
+plain-size x e = rw e
 
 -- what is read was there
 pub pending-read : (s : List ℕ) (at : ℕ) → readPending s at .outcome .number ≡ 0 →

@@ -1,12 +1,13 @@
 -- Pending addresses, document 01, "Beacon layout" (IEEE 802.15.4-2011, 5.2.2.1.6 and 5.2.2.1.7). Header: short count
 -- bits 0-2, extended count 4-6; short addresses first.
-use Rattle.octets.specs.Words.{ℕ, _+_, _*_, _%_, Bool, _||_, List, [], _∷_, _++_, flatMap, ltb, take, replicate}
+use Rattle.octets.specs.Words.{ℕ, _+_, _*_, _^_, Bool, _||_, List, [], _∷_, _++_, flatMap, ltb, take, replicate}
 use Rattle.octets.specs.declared.{ValueWritten.ValueWritten}
 use Rattle.octets.specs.{Bits.bits, Order.first, Part.ends, Value.writeValue}
 use Rattle.octets.specs.Little.{number, split}
 use Rattle.octets.specs.Outcome.{accepted, refused}
 use Rattle.identifiers.specs.declared.{ShortAddress.ShortAddress, ExtendedAddress.ExtendedAddress}
-use Rattle.pending.specs.declared.{PendingAddress.PendingAddress, PendingRead.PendingRead}
+use Rattle.pending.specs.declared.{PendingAddress.PendingAddress, ShortAddresses.ShortAddresses}
+use Rattle.pending.specs.declared.{ExtendedAddresses.ExtendedAddresses, PendingRead.PendingRead}
 use Rattle.pending.specs.Addresses.{emptyShort, emptyExtended, shortsIn, extendedsIn, shortBytes, extendedBytes}
 
 -- how many bytes the addresses take behind the header
@@ -25,9 +26,16 @@ pendingOf m shorts n extendeds =
 abbrev pub emptyPending : PendingAddress
 emptyPending = pendingOf 0 (replicate 7 emptyShort) 0 (replicate 7 emptyExtended)
 
+-- its short and its extended addresses: "the count with the array"
+abbrev pub shortsOf : PendingAddress → ShortAddresses
+shortsOf x = record { count = x .«short_address_count»; addresses = x .«short_addresses» }
+
+abbrev pub extendedsOf : PendingAddress → ExtendedAddresses
+extendedsOf x = record { count = x .«extended_address_count»; addresses = x .«extended_addresses» }
+
 -- the counts in the header at a place, and all that stands there
 abbrev pub shortCountIn : List ℕ → ℕ → ℕ
-shortCountIn s at = number s at 1 % 8
+shortCountIn s at = bits (number s at 1) 0 3
 
 abbrev pub extendedCountIn : List ℕ → ℕ → ℕ
 extendedCountIn s at = bits (number s at 1) 4 3
@@ -51,7 +59,7 @@ readPending s at =
 
 -- the header, bits 3 and 7 clear
 abbrev pub pendingHeader : PendingAddress → ℕ
-pendingHeader x = x .«short_address_count» + 16 * x .«extended_address_count»
+pendingHeader x = x .«short_address_count» + 2 ^ 4 * x .«extended_address_count»
 
 unfoldable pub pendingBytes : PendingAddress → List ℕ
 pendingBytes x =

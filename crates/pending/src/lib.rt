@@ -1,11 +1,12 @@
 // The pending addresses of a beacon, of devices for which the coordinator holds messages: a header with two counts,
-// then the short addresses and then the extended ones. The functions that ask something (`requires`) are building
-// blocks of this project's readers and writers, which measure first.
-ghost use Rattle.octets.specs.Words.{_+_, _-_, _*_, _≤_, false, _++_, flatMap, _≡_, length, take};
+// then the short addresses and then the extended ones. No public function asks anything; reading and writing measure
+// before they call those that do (`requires`).
+ghost use Rattle.octets.specs.Words.{_+_, _-_, _*_, _≤_, false, cond, _++_, flatMap, _≡_, length, take};
 ghost use Rattle.octets.specs.Buffer.{laid, after};
 ghost use Rattle.octets.specs.Value.{valueOutcome};
 ghost use Rattle.pending.specs.Addresses.{shortsIn, extendedsIn, shortBytes, extendedBytes};
-ghost use Rattle.pending.specs.Pending.{addressesLength, emptyPending, pendingRefused, readPending};
+ghost use Rattle.pending.specs.Pending.{addressesLength, emptyPending, shortsOf, extendedsOf};
+ghost use Rattle.pending.specs.Pending.{pendingRefused, readPending};
 ghost use Rattle.pending.specs.Pending.{pendingHeader, pendingBytes, pendingSize, pendingTooLarge, writePending};
 use identifiers::ExtendedAddress;
 use identifiers::ShortAddress;
@@ -47,12 +48,10 @@ fn extendeds_at(s: &[u8], at: usize, n: usize) -> [ExtendedAddress; 7]
     addresses
 }
 
-// Stores the first n short addresses side by side and returns the place behind them. Asks for at most seven, and for
-// that room.
-fn put_shorts(addresses: [ShortAddress; 7], n: usize, out: &mut [u8], at: usize) -> usize
+// Stores the first n short addresses side by side. Asks for at most seven, and for that room.
+fn put_shorts(addresses: [ShortAddress; 7], n: usize, out: &mut [u8], at: usize)
     requires { ⌜ n ≤ 7 ⌝ }
     requires { ⌜ 2 * n ≤ length (now out) - at ⌝ }
-    ensures { λ r. ⌜ r ≡ at + 2 * n ⌝ }
     ensures { λ r. ⌜ now (out .exit) ≡ laid (now (out .entry)) at (flatMap shortBytes (take n addresses)) ⌝ }
 {
     let mut k = 0;
@@ -61,15 +60,12 @@ fn put_shorts(addresses: [ShortAddress; 7], n: usize, out: &mut [u8], at: usize)
         put(address.0 as u64, 2, out, at + 2 * k);
         k += 1;
     }
-    at + 2 * n
 }
 
-// Stores the first n extended addresses side by side and returns the place behind them. Asks for at most seven, and for
-// that room.
-fn put_extendeds(addresses: [ExtendedAddress; 7], n: usize, out: &mut [u8], at: usize) -> usize
+// Stores the first n extended addresses side by side. Asks for at most seven, and for that room.
+fn put_extendeds(addresses: [ExtendedAddress; 7], n: usize, out: &mut [u8], at: usize)
     requires { ⌜ n ≤ 7 ⌝ }
     requires { ⌜ 8 * n ≤ length (now out) - at ⌝ }
-    ensures { λ r. ⌜ r ≡ at + 8 * n ⌝ }
     ensures { λ r. ⌜ now (out .exit) ≡ laid (now (out .entry)) at (flatMap extendedBytes (take n addresses)) ⌝ }
 {
     let mut k = 0;
@@ -78,7 +74,6 @@ fn put_extendeds(addresses: [ExtendedAddress; 7], n: usize, out: &mut [u8], at: 
         put(address.0, 8, out, at + 8 * k);
         k += 1;
     }
-    at + 8 * n
 }
 
 // Stores what follows the header: the first m short addresses, then the first n extended ones. Asks for at most seven
@@ -90,16 +85,15 @@ fn put_lists(
     n: usize,
     out: &mut [u8],
     at: usize,
-) -> usize
+)
     requires { ⌜ m ≤ 7 ⌝ }
     requires { ⌜ n ≤ 7 ⌝ }
     requires { ⌜ addressesLength m n ≤ length (now out) - at ⌝ }
-    ensures { λ r. ⌜ r ≡ at + addressesLength m n ⌝ }
     ensures { λ r. ⌜ now (out .exit) ≡ laid (now (out .entry)) at
         (flatMap shortBytes (take m shorts) ++ flatMap extendedBytes (take n extendeds)) ⌝ }
 {
-    let next = put_shorts(shorts, m, out, at);
-    put_extendeds(extendeds, n, out, next)
+    put_shorts(shorts, m, out, at);
+    put_extendeds(extendeds, n, out, at + 2 * m);
 }
 
 // The two lists.
@@ -109,6 +103,18 @@ pub struct PendingAddress {
     pub short_addresses: [ShortAddress; 7],
     pub extended_address_count: usize,
     pub extended_addresses: [ExtendedAddress; 7],
+}
+
+// The short addresses: the count with the array.
+pub struct ShortAddresses {
+    pub count: usize,
+    pub addresses: [ShortAddress; 7],
+}
+
+// The extended addresses: the count with the array.
+pub struct ExtendedAddresses {
+    pub count: usize,
+    pub addresses: [ExtendedAddress; 7],
 }
 
 // What reading pending addresses answers; refused, with the empty ones.
@@ -141,6 +147,28 @@ impl PendingAddress {
             short_addresses,
             extended_address_count: 0,
             extended_addresses,
+        }
+    }
+
+    // The short addresses, as the record has them.
+    pub fn short_addresses(self) -> ShortAddresses
+        ensures { λ r. ⌜ r ≡ shortsOf self ⌝ }
+    {
+        let addresses = self.short_addresses;
+        ShortAddresses {
+            count: self.short_address_count,
+            addresses,
+        }
+    }
+
+    // The extended addresses, as the record has them.
+    pub fn extended_addresses(self) -> ExtendedAddresses
+        ensures { λ r. ⌜ r ≡ extendedsOf self ⌝ }
+    {
+        let addresses = self.extended_addresses;
+        ExtendedAddresses {
+            count: self.extended_address_count,
+            addresses,
         }
     }
 
@@ -182,12 +210,14 @@ impl PendingAddress {
         }
     }
 
-    // How many bytes it is written in. Asks that no count is too large.
+    // How many bytes they are written in, 0 where a count is above 7.
     pub fn size(self) -> usize
-        requires { ⌜ pendingTooLarge self ≡ false ⌝ }
-        ensures { λ r. ⌜ r ≡ pendingSize self ⌝ }
+        ensures { λ r. ⌜ r ≡ cond (pendingTooLarge self) 0 (pendingSize self) ⌝ }
         ensures { λ r. ⌜ r ≤ 71 ⌝ }
     {
+        if self.too_large() {
+            return 0;
+        }
         1 + (2 * self.short_address_count + 8 * self.extended_address_count)
     }
 
@@ -199,11 +229,10 @@ impl PendingAddress {
         self.short_address_count as u8 + 16 * (self.extended_address_count as u8)
     }
 
-    // Stores it and returns the place behind it. Asks that no count is too large, and for that room.
-    pub fn put(self, out: &mut [u8], at: usize) -> usize
+    // Stores them. Asks that no count is too large, and for that room.
+    fn put(self, out: &mut [u8], at: usize)
         requires { ⌜ pendingTooLarge self ≡ false ⌝ }
         requires { ⌜ pendingSize self ≤ length (now out) - at ⌝ }
-        ensures { λ r. ⌜ r ≡ at + pendingSize self ⌝ }
         ensures { λ r. ⌜ now (out .exit) ≡ laid (now (out .entry)) at (pendingBytes self) ⌝ }
     {
         let shorts = self.short_addresses;
@@ -217,7 +246,7 @@ impl PendingAddress {
             self.extended_address_count,
             out,
             next,
-        )
+        );
     }
 
     // Writes them at a place; refused, out keeps every byte.

@@ -14,7 +14,7 @@ use lib.Seq.{length-take-le, drop-cons, getD-take}
 use Rattle.octets.specs.Buffer.{laid}
 use Rattle.octets.proofs.Buffer.{laid-join, laid-none}
 use Rattle.octets.proofs.Cases.{cases, holds?, neither}
-use Rattle.seven_places.specs.Seven.{seven, reset, some}
+use Rattle.seven_places.specs.Seven.{seven, emptied, some}
 
 module _ {A : Type 0} where
   pub seven-none : (entry : ℕ → A) (empty : A) → seven entry empty 0 ≡ replicate 7 empty
@@ -61,8 +61,8 @@ module _ {A : Type 0} where
   seven-entry entry empty n (suc (suc (suc (suc (suc (suc (suc k))))))) h = absurd (omega arith)
 
   -- unused places are empty already
-  pub seven-reset : (entry : ℕ → A) (empty : A) (n : ℕ) → n ≤ 7 → reset (seven entry empty n) empty n ≡ seven entry empty n
-  seven-reset entry empty n h =
+  pub seven-emptied : (entry : ℕ → A) (empty : A) (n : ℕ) → n ≤ 7 → emptied (seven entry empty n) empty n ≡ seven entry empty n
+  seven-emptied entry empty n h =
       seven-same (λ (k : ℕ). getD (seven entry empty n) k empty) entry empty n
       (λ k l. seven-entry entry empty n k (omega arith) ∙ rw (lt-ltb k n l))
 
@@ -96,8 +96,8 @@ module _ {A : Type 0} where
   span-list l empty i zero h = refl
   span-list l empty i (suc m) h = rw (span-list l empty (i + 1) m (omega arith), add-one i, drop-cons l i empty (omega arith))
 
-  pub reset-in-use : (l : List A) (empty : A) (n : ℕ) → n ≤ 7 → n ≤ length l → take n (reset l empty n) ≡ take n l
-  reset-in-use l empty n few h = in-use (λ (k : ℕ). getD l k empty) empty n few ∙ span-list l empty 0 n (omega arith)
+  pub emptied-in-use : (l : List A) (empty : A) (n : ℕ) → n ≤ 7 → n ≤ length l → take n (emptied l empty n) ≡ take n l
+  emptied-in-use l empty n few h = in-use (λ (k : ℕ). getD l k empty) empty n few ∙ span-list l empty 0 n (omega arith)
 
   -- what is left of the first n entries from entry i on: entry i and what is left behind it, or nothing
   pub rest-next : (l : List A) (n i : ℕ) (d : A) → n ≤ length l → i < n → drop i (take n l) ≡ getD l i d ∷ drop (i + 1) (take n l)

@@ -7,8 +7,8 @@ unfoldable pub seven : {A : Type 0} → (ℕ → A) → A → ℕ → List A
 seven entry empty n = map (λ (k : ℕ). cond (ltb k n) (entry k) empty) (0 ∷ 1 ∷ 2 ∷ 3 ∷ 4 ∷ 5 ∷ 6 ∷ [])
 
 -- an array of seven with its unused places made empty
-abbrev pub reset : {A : Type 0} → List A → A → ℕ → List A
-reset l empty n = seven (λ (k : ℕ). getD l k empty) empty n
+abbrev pub emptied : {A : Type 0} → List A → A → ℕ → List A
+emptied l empty n = seven (λ (k : ℕ). getD l k empty) empty n
 
 -- the test holds of some entry
 unfoldable pub some : {A : Type 0} → (A → Bool) → List A → Bool

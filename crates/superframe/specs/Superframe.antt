@@ -1,7 +1,7 @@
 -- The superframe specification, document 01, "Beacon layout" (IEEE 802.15.4-2011, 5.2.2.1.2). Byte 0: beacon order (low
 -- half), superframe order (high half). Byte 1: final slot bits 0-3, battery extension 4, bit 5 not read, coordinator 6,
 -- association permit 7.
-use Rattle.octets.specs.Words.{ℕ, _+_, _*_, _%_, Bool, false, _||_, List, [], _∷_, _++_, ltb}
+use Rattle.octets.specs.Words.{ℕ, _+_, _*_, _^_, Bool, false, _||_, List, [], _∷_, _++_, ltb}
 use Rattle.octets.specs.declared.{ValueWritten.ValueWritten}
 use Rattle.octets.specs.Bits.{bits, bit, bitOf}
 use Rattle.octets.specs.Little.{number, split}
@@ -18,9 +18,9 @@ use Rattle.superframe.specs.declared.SuperframeOrder.the-variants.{Inact
 abbrev pub superframeOf : ℕ → ℕ → SuperframeSpecification
 superframeOf orders rest =
     record {
-      «beacon_order» = beaconOrderOf (orders % 16);
+      «beacon_order» = beaconOrderOf (bits orders 0 4);
       «superframe_order» = superframeOrderOf (bits orders 4 4);
-      «final_cap_slot» = rest % 16;
+      «final_cap_slot» = bits rest 0 4;
       «battery_life_extension» = bit rest 4;
       «pan_coordinator» = bit rest 6;
       «association_permit» = bit rest 7;
@@ -49,14 +49,14 @@ readSuperframe s at =
 
 -- the two bytes, bit 5 of the second clear
 abbrev pub ordersByte : SuperframeSpecification → ℕ
-ordersByte x = beaconOrderBits (x .«beacon_order») + 16 * superframeOrderBits (x .«superframe_order»)
+ordersByte x = beaconOrderBits (x .«beacon_order») + 2 ^ 4 * superframeOrderBits (x .«superframe_order»)
 
 abbrev pub restByte : SuperframeSpecification → ℕ
 restByte x =
     x .«final_cap_slot»
-    + 16 * bitOf (x .«battery_life_extension»)
-    + 64 * bitOf (x .«pan_coordinator»)
-    + 128 * bitOf (x .«association_permit»)
+    + 2 ^ 4 * bitOf (x .«battery_life_extension»)
+    + 2 ^ 6 * bitOf (x .«pan_coordinator»)
+    + 2 ^ 7 * bitOf (x .«association_permit»)
 
 unfoldable pub superframeBytes : SuperframeSpecification → List ℕ
 superframeBytes x = split 1 (ordersByte x) ++ split 1 (restByte x)

@@ -1,6 +1,6 @@
 // The superframe specification: beacon order and superframe order, each a number or the case that 15 stands for, the
-// final slot of the contention access period and three flags, in two bytes. The functions that ask something
-// (`requires`) are building blocks of this project's readers and writers, which measure first.
+// final slot of the contention access period and three flags, in two bytes. No public function asks anything; reading
+// and writing measure before they call those that do (`requires`).
 ghost use Rattle.octets.specs.Words.{_+_, _-_, _≤_, false, _≡_, length};
 ghost use Rattle.octets.specs.Buffer.{laid, after};
 ghost use Rattle.octets.specs.Value.{valueOutcome};
@@ -196,17 +196,15 @@ impl SuperframeSpecification {
             + 128 * bit_of(self.association_permit)
     }
 
-    // Stores the two bytes and returns the place behind them. Asks that no number is too large, and for that room.
-    pub fn put(self, out: &mut [u8], at: usize) -> usize
+    // Stores the two bytes. Asks that no number is too large.
+    fn put(self, out: &mut [u8], at: usize)
         requires { ⌜ superframeTooLarge self ≡ false ⌝ }
-        requires { ⌜ 2 ≤ length (now out) - at ⌝ }
-        ensures { λ r. ⌜ r ≡ at + 2 ⌝ }
         ensures { λ r. ⌜ now (out .exit) ≡ laid (now (out .entry)) at (superframeBytes self) ⌝ }
     {
         let orders = self.orders();
         let rest = self.rest();
         let next = put(orders as u64, 1, out, at);
-        put(rest as u64, 1, out, next)
+        put(rest as u64, 1, out, next);
     }
 
     // Writes the two bytes at a place; refused, out keeps every byte.

@@ -3,7 +3,7 @@
 use Prim.Native.Nat.{ℕ, zero, suc, _+_, _-_, _*_, _^_, _≤_, _<_}
 use native.Mathlib.Nat.{pow-suc}
 use native.Mathlib.Omega.{arith}
-use mathlib.Core.Bool.{false}
+use mathlib.Core.Bool.{false, cond}
 use mathlib.Core.List.{List, [], _∷_, _++_, flatMap}
 use mathlib.Core.Path.{_≡_, refl, ap}
 use borrow.Author.Tests.{ltb-false}
@@ -24,7 +24,8 @@ use Rattle.time_slots.specs.Descriptor.{descriptorBytes, descriptorTooLa
 use Rattle.time_slots.proofs.Descriptor.{descriptor-length}
 use Rattle.time_slots.specs.declared.GuaranteedTimeSlotInformation.{GuaranteedTimeSlotInformation}
 use Rattle.time_slots.specs.TimeSlots.{slotsLength, slotsDemand, slotCountIn, timeSlotsIn, timeSlotsLengthIn, readTimeSlots}
-use Rattle.time_slots.specs.TimeSlots.{directionsOf, listBytes, timeSlotsTooLarge}
+use Rattle.time_slots.specs.TimeSlots.{directionsOf, listBytes, timeSlotsHeader, timeSlotsBytes, timeSlotsSize}
+use Rattle.time_slots.specs.TimeSlots.{slotCountTooLarge, timeSlotsTooLarge}
 
 -- how many bytes slots take and are asked for
 pub length-some : (n : ℕ) → (n ≡ 0 → ⊥) → slotsLength n ≡ 1 + 3 * n
@@ -89,6 +90,23 @@ pub fitting : (x : GuaranteedTimeSlotInformation) → timeSlotsTooLarge x ≡ fa
     (x .«slot_count» ≤ 7) × (some descriptorTooLarge (take (x .«slot_count») (x .slots)) ≡ false)
 unfolding timeSlotsTooLarge
 fitting x e = let both = neither _ _ e in (ltb-false 7 (x .«slot_count») (both .0), both .1)
+
+-- and then its size is the whole length
+pub plain-size : (x : GuaranteedTimeSlotInformation) → timeSlotsTooLarge x ≡ false →
+    cond (slotCountTooLarge x) 0 (timeSlotsSize x) ≡ timeSlotsSize x
+unfolding timeSlotsTooLarge
+plain-size x e = rw (neither (slotCountTooLarge x) _ e .0)
+
+-- and its bytes are as many
+pub time-slots-length : (x : GuaranteedTimeSlotInformation) → length (x .slots) ≡ 7 → timeSlotsTooLarge x ≡ false →
+    length (timeSlotsBytes x) ≡ timeSlotsSize x
+unfolding timeSlotsBytes
+time-slots-length x full f =
+    rw (
+      length-append (split 1 (timeSlotsHeader x)) (listBytes (take (x .«slot_count») (x .slots))),
+      split-length 1 (timeSlotsHeader x),
+      list-length (x .slots) (x .«slot_count») (rw full (fitting x f .0)),
+    )
 
 -- what is read was there, and what it wants to see behind
 pub time-slots-read : (s : List ℕ) (at : ℕ) → readTimeSlots s at .outcome .number ≡ 0 →

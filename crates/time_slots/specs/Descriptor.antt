@@ -1,6 +1,6 @@
 -- The descriptor of a guaranteed time slot, document 01, "Beacon layout" (IEEE 802.15.4-2011, 5.2.2.1.5): short address
 -- (2), start (low half), length (high half).
-use Rattle.octets.specs.Words.{ℕ, _+_, _*_, _%_, Bool, _||_, List, [], _∷_, _++_, ltb}
+use Rattle.octets.specs.Words.{ℕ, _+_, _*_, _^_, Bool, _||_, List, [], _∷_, _++_, ltb}
 use Rattle.octets.specs.declared.{ValueWritten.ValueWritten}
 use Rattle.octets.specs.{Bits.bits, Order.first, Part.ends, Value.writeValue}
 use Rattle.octets.specs.Little.{number, split}
@@ -24,7 +24,7 @@ emptyDescriptor = descriptorOf (short 0xffff) 0 0 Receive
 unfoldable pub descriptorIn : List ℕ → ℕ → Direction → GuaranteedTimeSlotDescriptor
 descriptorIn s at direction =
     let slot = number s (at + 2) 1 in
-    descriptorOf (short (number s at 2)) (slot % 16) (bits slot 4 4) direction
+    descriptorOf (short (number s at 2)) (bits slot 0 4) (bits slot 4 4) direction
 
 -- and what reading it there alone answers
 unfoldable pub readDescriptor : List ℕ → ℕ → DescriptorRead
@@ -34,7 +34,7 @@ readDescriptor s at =
 
 -- the three bytes
 abbrev pub slotByte : GuaranteedTimeSlotDescriptor → ℕ
-slotByte x = x .«starting_slot» + 16 * x .length
+slotByte x = x .«starting_slot» + 2 ^ 4 * x .length
 
 unfoldable pub descriptorBytes : GuaranteedTimeSlotDescriptor → List ℕ
 descriptorBytes x = split 2 (x .«short_address» .0) ++ split 1 (slotByte x)

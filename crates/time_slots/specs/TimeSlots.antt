@@ -1,6 +1,6 @@
 -- GTS information, document 01, "Beacon layout" (IEEE 802.15.4-2011, 5.2.2.1.3 to 5.2.2.1.5). Header: count n bits 0-2,
 -- permit 7. For n > 0 a direction byte, then n descriptors. Bit k of the direction byte belongs to descriptor k.
-use Rattle.octets.specs.Words.{ℕ, zero, suc, _+_, _*_, _%_, Bool, false, _||_, List, [], _∷_, _++_, flatMap, ltb, take}
+use Rattle.octets.specs.Words.{ℕ, zero, suc, _+_, _*_, _^_, Bool, false, _||_, List, [], _∷_, _++_, flatMap, ltb, take}
 use Rattle.octets.specs.Words.{replicate}
 use Rattle.octets.specs.declared.{ValueWritten.ValueWritten}
 use Rattle.octets.specs.Bits.{bits, bit, bitOf}
@@ -10,7 +10,7 @@ use Rattle.octets.specs.Outcome.{accepted, refused}
 use Rattle.seven_places.specs.Seven.{seven, some}
 use Rattle.time_slots.specs.declared.{GuaranteedTimeSlotDescriptor.GuaranteedTimeSlotDescriptor}
 use Rattle.time_slots.specs.declared.{GuaranteedTimeSlotInformation.GuaranteedTimeSlotInformation}
-use Rattle.time_slots.specs.declared.{TimeSlotsRead.TimeSlotsRead}
+use Rattle.time_slots.specs.declared.{Slots.Slots, TimeSlotsRead.TimeSlotsRead}
 use Rattle.time_slots.specs.Direction.{directionBit, directionOf}
 use Rattle.time_slots.specs.Descriptor.{emptyDescriptor, descriptorIn, descriptorBytes, descriptorTooLarge}
 
@@ -39,9 +39,13 @@ timeSlotsOf permit n slots = record { permit = permit; «slot_count» = n; slots
 abbrev pub emptyTimeSlots : GuaranteedTimeSlotInformation
 emptyTimeSlots = timeSlotsOf false 0 (replicate 7 emptyDescriptor)
 
+-- its slots: "the count with the array"
+abbrev pub slotsOf : GuaranteedTimeSlotInformation → Slots
+slotsOf x = record { count = x .«slot_count»; slots = x .slots }
+
 -- the count in the header at a place, and all that stands there
 abbrev pub slotCountIn : List ℕ → ℕ → ℕ
-slotCountIn s at = number s at 1 % 8
+slotCountIn s at = bits (number s at 1) 0 3
 
 unfoldable pub timeSlotsIn : List ℕ → ℕ → GuaranteedTimeSlotInformation
 timeSlotsIn s at = timeSlotsOf (bit (number s at 1) 7) (slotCountIn s at) (slotsIn s (at + 1) (slotCountIn s at))
@@ -70,7 +74,7 @@ listBytes (x ∷ l) = split 1 (directionsOf (x ∷ l)) ++ flatMap descriptorByte
 
 -- the header, bits 3-6 clear
 abbrev pub timeSlotsHeader : GuaranteedTimeSlotInformation → ℕ
-timeSlotsHeader x = x .«slot_count» + 128 * bitOf (x .permit)
+timeSlotsHeader x = x .«slot_count» + 2 ^ 7 * bitOf (x .permit)
 
 unfoldable pub timeSlotsBytes : GuaranteedTimeSlotInformation → List ℕ
 timeSlotsBytes x = split 1 (timeSlotsHeader x) ++ listBytes (take (x .«slot_count») (x .slots))
@@ -79,8 +83,11 @@ abbrev pub timeSlotsSize : GuaranteedTimeSlotInformation → ℕ
 timeSlotsSize x = 1 + slotsLength (x .«slot_count»)
 
 -- refusal 8: a count above 7; a start or a length above 15 of a slot in use
+abbrev pub slotCountTooLarge : GuaranteedTimeSlotInformation → Bool
+slotCountTooLarge x = ltb 7 (x .«slot_count»)
+
 unfoldable pub timeSlotsTooLarge : GuaranteedTimeSlotInformation → Bool
-timeSlotsTooLarge x = ltb 7 (x .«slot_count») || some descriptorTooLarge (take (x .«slot_count») (x .slots))
+timeSlotsTooLarge x = slotCountTooLarge x || some descriptorTooLarge (take (x .«slot_count») (x .slots))
 
 unfoldable pub writeTimeSlots : GuaranteedTimeSlotInformation → List ℕ → ℕ → ValueWritten
 writeTimeSlots x out at = writeValue (timeSlotsTooLarge x) out at (timeSlotsSize x)

@@ -1,7 +1,7 @@
 // The GTS information of a beacon: a header with permit and count, and for a count above 0 a byte of directions and the
-// descriptors of the guaranteed time slots (GTS), three bytes each. The functions that ask something (`requires`) are
-// building blocks of this project's readers and writers, which measure first.
-ghost use Rattle.octets.specs.Words.{_+_, _-_, _*_, _≤_, _<_, false, flatMap, _≡_, length, take};
+// descriptors of the guaranteed time slots (GTS), three bytes each. No public function asks anything; reading and
+// writing measure before they call those that do (`requires`).
+ghost use Rattle.octets.specs.Words.{_+_, _-_, _*_, _≤_, _<_, false, cond, flatMap, _≡_, length, take};
 ghost use Rattle.octets.specs.Buffer.{laid, after};
 ghost use Rattle.octets.specs.Value.{valueOutcome};
 ghost use Rattle.seven_places.specs.Seven.{some};
@@ -9,9 +9,9 @@ ghost use Rattle.time_slots.specs.Direction.{directionBit, directionOf};
 ghost use Rattle.time_slots.specs.Descriptor.{emptyDescriptor, descriptorIn, readDescriptor};
 ghost use Rattle.time_slots.specs.Descriptor.{descriptorBytes, descriptorTooLarge, writeDescriptor};
 ghost use Rattle.time_slots.specs.TimeSlots.{slotsLength, slotsDemand, slotAt, slotsIn, emptyTimeSlots};
-ghost use Rattle.time_slots.specs.TimeSlots.{timeSlotsRefused, readTimeSlots, directionsOf, listBytes};
+ghost use Rattle.time_slots.specs.TimeSlots.{slotsOf, timeSlotsRefused, readTimeSlots, directionsOf, listBytes};
 ghost use Rattle.time_slots.specs.TimeSlots.{timeSlotsHeader, timeSlotsBytes, timeSlotsSize};
-ghost use Rattle.time_slots.specs.TimeSlots.{timeSlotsTooLarge, writeTimeSlots};
+ghost use Rattle.time_slots.specs.TimeSlots.{slotCountTooLarge, timeSlotsTooLarge, writeTimeSlots};
 use identifiers::ShortAddress;
 use octets::Outcome;
 use octets::ValueWritten;
@@ -82,7 +82,7 @@ impl GuaranteedTimeSlotDescriptor {
     }
 
     // The descriptor in three bytes, with its direction, which stands elsewhere. Asks that they are there.
-    pub fn at(s: &[u8], at: usize, direction: Direction) -> Self
+    fn at(s: &[u8], at: usize, direction: Direction) -> Self
         requires { ⌜ at + 3 ≤ length (now s) ⌝ }
         ensures { λ r. ⌜ r ≡ descriptorIn (now (s .entry)) at direction ⌝ }
     {
@@ -124,17 +124,15 @@ impl GuaranteedTimeSlotDescriptor {
         }
     }
 
-    // Stores the three bytes and returns the place behind them. Asks that no number is too large, and for that room.
-    pub fn put(self, out: &mut [u8], at: usize) -> usize
+    // Stores the three bytes. Asks that no number is too large.
+    fn put(self, out: &mut [u8], at: usize)
         requires { ⌜ descriptorTooLarge self ≡ false ⌝ }
-        requires { ⌜ 3 ≤ length (now out) - at ⌝ }
-        ensures { λ r. ⌜ r ≡ at + 3 ⌝ }
         ensures { λ r. ⌜ now (out .exit) ≡ laid (now (out .entry)) at (descriptorBytes self) ⌝ }
     {
         let address = self.short_address.0;
         let slot = self.starting_slot + 16 * self.length;
         let next = put(address as u64, 2, out, at);
-        put(slot as u64, 1, out, next)
+        put(slot as u64, 1, out, next);
     }
 
     // Writes the three bytes at a place; refused, out keeps every byte. The direction has no bit of its own here.
@@ -153,22 +151,20 @@ impl GuaranteedTimeSlotDescriptor {
     }
 }
 
-// How many bytes n slots take behind the header. Asks for at most seven.
-pub fn slots_length(n: usize) -> usize
-    requires { ⌜ n ≤ 7 ⌝ }
+// How many bytes n slots take behind the header.
+pub fn slots_length(n: u8) -> usize
     ensures { λ r. ⌜ r ≡ slotsLength n ⌝ }
-    ensures { λ r. ⌜ r ≤ 22 ⌝ }
+    ensures { λ r. ⌜ r ≤ 1 + 3 * n ⌝ }
 {
-    if n == 0 { 0 } else { 1 + 3 * n }
+    if n == 0 { 0 } else { 1 + 3 * (n as usize) }
 }
 
-// How many bytes the reader wants to see behind the header of n slots. Asks for at most seven.
-fn slots_demand(n: usize) -> usize
-    requires { ⌜ n ≤ 7 ⌝ }
+// How many bytes the reader wants to see behind the header of n slots.
+fn slots_demand(n: u8) -> usize
     ensures { λ r. ⌜ r ≡ slotsDemand n ⌝ }
-    ensures { λ r. ⌜ r ≤ 23 ⌝ }
+    ensures { λ r. ⌜ r ≤ 2 + 3 * n ⌝ }
 {
-    if n == 0 { 0 } else { 2 + 3 * n }
+    if n == 0 { 0 } else { 2 + 3 * (n as usize) }
 }
 
 // Slot k of the list whose directions stand at a place. Asks that both are there.
@@ -228,13 +224,11 @@ fn directions(slots: [GuaranteedTimeSlotDescriptor; 7], n: usize) -> u8
     byte
 }
 
-// Stores the first n slots side by side and returns the place behind them. Asks that no number is too large, and for
-// that room.
-fn put_slots(slots: [GuaranteedTimeSlotDescriptor; 7], n: usize, out: &mut [u8], at: usize) -> usize
+// Stores the first n slots side by side. Asks for at most seven, that no number is too large, and for that room.
+fn put_slots(slots: [GuaranteedTimeSlotDescriptor; 7], n: usize, out: &mut [u8], at: usize)
     requires { ⌜ n ≤ 7 ⌝ }
     requires { ⌜ some descriptorTooLarge (take n slots) ≡ false ⌝ }
     requires { ⌜ 3 * n ≤ length (now out) - at ⌝ }
-    ensures { λ r. ⌜ r ≡ at + 3 * n ⌝ }
     ensures { λ r. ⌜ now (out .exit) ≡ laid (now (out .entry)) at (flatMap descriptorBytes (take n slots)) ⌝ }
 {
     let mut k = 0;
@@ -243,25 +237,22 @@ fn put_slots(slots: [GuaranteedTimeSlotDescriptor; 7], n: usize, out: &mut [u8],
         slot.put(out, at + 3 * k);
         k += 1;
     }
-    at + 3 * n
 }
 
-// Stores what follows the header: for any slot, the directions and the slots. Asks that no number is too large, and for
-// that room.
-fn put_list(slots: [GuaranteedTimeSlotDescriptor; 7], n: usize, out: &mut [u8], at: usize) -> usize
+// Stores what follows the header: for any slot, the directions and the slots. Asks for at most seven, that no number is
+// too large, and for that room.
+fn put_list(slots: [GuaranteedTimeSlotDescriptor; 7], n: usize, out: &mut [u8], at: usize)
     requires { ⌜ n ≤ 7 ⌝ }
     requires { ⌜ some descriptorTooLarge (take n slots) ≡ false ⌝ }
     requires { ⌜ slotsLength n ≤ length (now out) - at ⌝ }
-    ensures { λ r. ⌜ r ≡ at + slotsLength n ⌝ }
     ensures { λ r. ⌜ now (out .exit) ≡ laid (now (out .entry)) at (listBytes (take n slots)) ⌝ }
-    ensures { λ r. ⌜ length (listBytes (take n slots)) ≡ slotsLength n ⌝ }
 {
     if n == 0 {
-        return at;
+        return;
     }
     let byte = directions(slots, n);
     let next = put(byte as u64, 1, out, at);
-    put_slots(slots, n, out, next)
+    put_slots(slots, n, out, next);
 }
 
 // The header and the list.
@@ -270,6 +261,12 @@ pub struct GuaranteedTimeSlotInformation {
     pub permit: bool,
     // How many places of `slots` are in use, at most 7 in a record that can be written.
     pub slot_count: usize,
+    pub slots: [GuaranteedTimeSlotDescriptor; 7],
+}
+
+// The slots: the count with the array.
+pub struct Slots {
+    pub count: usize,
     pub slots: [GuaranteedTimeSlotDescriptor; 7],
 }
 
@@ -304,6 +301,17 @@ impl GuaranteedTimeSlotInformation {
         }
     }
 
+    // The slots, as the record has them.
+    pub fn slots(self) -> Slots
+        ensures { λ r. ⌜ r ≡ slotsOf self ⌝ }
+    {
+        let slots = self.slots;
+        Slots {
+            count: self.slot_count,
+            slots,
+        }
+    }
+
     // Reads it at a place: refusal 1 where its bytes are not all there. Read alone, it wants to see one byte more
     // behind its slots than it takes, as the crate does: in a beacon another part follows.
     pub fn read(s: &[u8], at: usize) -> TimeSlotsRead
@@ -313,16 +321,16 @@ impl GuaranteedTimeSlotInformation {
             return TimeSlotsRead::refused();
         }
         let header = u8_at(s, at);
-        let n = (header % 8) as usize;
+        let n = header % 8;
         if left(s, at) < 1 + slots_demand(n) {
             return TimeSlotsRead::refused();
         }
-        let slots = slots_at(s, at + 1, n);
+        let slots = slots_at(s, at + 1, n as usize);
         TimeSlotsRead {
             outcome: Outcome::accepted(1 + slots_length(n)),
             guaranteed_time_slot_info: GuaranteedTimeSlotInformation {
                 permit: header / 128 % 2 == 1,
-                slot_count: n,
+                slot_count: n as usize,
                 slots,
             },
         }
@@ -339,13 +347,16 @@ impl GuaranteedTimeSlotInformation {
         some_too_large(slots, self.slot_count)
     }
 
-    // How many bytes it is written in. Asks for a count of at most seven.
+    // How many bytes it is written in, 0 where its count is above 7.
     pub fn size(self) -> usize
-        requires { ⌜ self .«slot_count» ≤ 7 ⌝ }
-        ensures { λ r. ⌜ r ≡ timeSlotsSize self ⌝ }
+        ensures { λ r. ⌜ r ≡ cond (slotCountTooLarge self) 0 (timeSlotsSize self) ⌝ }
         ensures { λ r. ⌜ r ≤ 23 ⌝ }
     {
-        1 + slots_length(self.slot_count)
+        if self.slot_count <= 7 {
+            1 + slots_length(self.slot_count as u8)
+        } else {
+            0
+        }
     }
 
     // The byte of permit and count. Asks for a count of at most seven.
@@ -356,18 +367,16 @@ impl GuaranteedTimeSlotInformation {
         self.slot_count as u8 + 128 * bit_of(self.permit)
     }
 
-    // Stores it and returns the place behind it. Asks that no number is too large, and for that room.
-    pub fn put(self, out: &mut [u8], at: usize) -> usize
+    // Stores it. Asks that no number is too large, and for that room.
+    fn put(self, out: &mut [u8], at: usize)
         requires { ⌜ timeSlotsTooLarge self ≡ false ⌝ }
         requires { ⌜ timeSlotsSize self ≤ length (now out) - at ⌝ }
-        ensures { λ r. ⌜ r ≡ at + timeSlotsSize self ⌝ }
         ensures { λ r. ⌜ now (out .exit) ≡ laid (now (out .entry)) at (timeSlotsBytes self) ⌝ }
-        ensures { λ r. ⌜ length (timeSlotsBytes self) ≡ timeSlotsSize self ⌝ }
     {
         let slots = self.slots;
         let header = self.header();
         let next = put(header as u64, 1, out, at);
-        put_list(slots, self.slot_count, out, next)
+        put_list(slots, self.slot_count, out, next);
     }
 
     // Writes it at a place; refused, out keeps every byte.

@@ -1,18 +1,15 @@
 -- `beacon_measure::time_slots_length` meets its contract: the count stands in the header.
 -- Assumes nothing.
-use Prim.Native.Nat.{ℕ, _+_, _%_}
-use mathlib.Core.Path.{ap, _∙_}
+use native.Mathlib.Nat.{div-one}
 use native.Mathlib.Omega.{arith}
 use borrow.Author.Needs.{needs}
-use Rattle.time_slots.specs.TimeSlots.{slotsLength}
 use Rattle.beacon_measure.proofs.time_slots_length.Statement.{statement}
 use Rattle.beacon_measure.proofs.time_slots_length.Tie as tie
 
 returns : tie.Need-returns
 returns c =
     let size = c .slots-length .ensures in
-    (ap (λ (n : ℕ). 1 + n) (size .0 ∙ ap (λ (b : ℕ). slotsLength (b % 8)) (c .before .u8-at .ensures)), omega (arith, size .1))
+    (simp (div-one, size .0, c .before .u8-at .ensures), omega (arith, size .1))
 
 pub time-slots-length-spec : {M : Type 1} → statement M
-time-slots-length-spec =
-    tie.close (tie.spec (λ c κs. search needs) (λ c. search needs) (λ c κs. search needs) (λ c. search needs) returns)
+time-slots-length-spec = tie.close (tie.spec (λ c κs. search needs) (λ c κs. search needs) (λ c. search needs) returns)

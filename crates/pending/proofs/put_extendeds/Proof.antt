@@ -46,11 +46,11 @@ all : tie.Need-returns Inv-loop μ-loop
 all c =
     let l = c .before .loop in
     let a = c .before .before .before .args in
-    (refl, sym (put-done extendedBytes 8 (a .t1) (a .n) (l .k) (l .out) (a .at + 8 * l .k) (omega arith)) ∙ l .inv .1 .1)
+    sym (put-done extendedBytes 8 (a .t1) (a .n) (l .k) (l .out) (a .at + 8 * l .k) (omega arith)) ∙ l .inv .1 .1
 
 pub put-extendeds-spec : {M : Type 1} → statement M
 put-extendeds-spec =
     tie.close
     (tie.spec Inv-loop μ-loop none-yet (λ c. omega arith) (λ c. omega arith) (λ c. omega arith) (λ c. omega arith) (λ c κs. omega arith)
     (λ c. omega arith) (λ c. omega arith)
-    one-less (λ c. omega arith) (λ c. omega arith) same-length all)
+    one-less same-length all)

@@ -45,11 +45,11 @@ all : tie.Need-returns Inv-loop μ-loop
 all c =
     let l = c .before .loop in
     let a = c .before .before .before .args in
-    (refl, sym (put-done shortBytes 2 (a .t1) (a .n) (l .k) (l .out) (a .at + 2 * l .k) (omega arith)) ∙ l .inv .1 .1)
+    sym (put-done shortBytes 2 (a .t1) (a .n) (l .k) (l .out) (a .at + 2 * l .k) (omega arith)) ∙ l .inv .1 .1
 
 pub put-shorts-spec : {M : Type 1} → statement M
 put-shorts-spec =
     tie.close
     (tie.spec Inv-loop μ-loop none-yet (λ c. omega arith) (λ c. omega arith) (λ c. omega arith) (λ c. omega arith) (λ c. omega arith)
     (λ c κs. omega arith) (λ c. omega arith) (λ c. omega arith)
-    one-less (λ c. omega arith) (λ c. omega arith) same-length all)
+    one-less same-length all)

@@ -1,14 +1,13 @@
 -- `time_slots::put_list` meets its contract: the directions and the slots, two stores side by side, are one.
 -- Assumes nothing.
 use Prim.Native.Nat.{_≤_}
-use mathlib.Core.Path.{sym, ap, _∙_}
-use Rattle.octets.specs.Buffer.{laid}
-use Rattle.octets.proofs.Buffer.{laid-none, laid-two}
+use mathlib.Core.Path.{sym}
+use Rattle.octets.proofs.Buffer.{laid-none, laid-on}
 use native.Mathlib.Omega.{arith}
 use borrow.Author.Needs.{needs}
 use lib.ListN.{length}
 use Rattle.octets.proofs.Little.{split-length}
-use Rattle.time_slots.proofs.TimeSlots.{length-some, list-none, list-some, list-length}
+use Rattle.time_slots.proofs.TimeSlots.{length-some, list-none, list-some}
 use Rattle.time_slots.proofs.put_list.Statement.{statement}
 use Rattle.time_slots.proofs.put_list.Tie as tie
 
@@ -16,7 +15,7 @@ none : tie.Need-returns
 none c =
     let a = c .before .before .args in
     let nothing = list-none (a .slots) (a .n) (c .if1 .taken) in
-    (rw (c .if1 .taken) (omega arith), (sym (rw nothing (laid-none _ _)), rw (nothing, c .if1 .taken)))
+    sym (rw nothing (laid-none _ _))
 
 room : tie.Need-put-requires
 room c κs =
@@ -48,15 +47,14 @@ some c =
     let byte = first .before .before in
     let test = byte .before in
     let a = test .before .before in
-    let few : a .args .n ≤ length (a .args .slots) = omega (arith, a .good .0 .1 .0 .1, a .pre .0) in (
-      omega (arith, second .put-slots .ensures .0, first .put .ensures .0, length-some (a .args .n) (test .if1 .left)),
-      (
-        laid-two _ _ 1 _ _ _ (split-length 1 _) (first .put .ensures .0) (first .put .ensures .1) (second .put-slots .ensures .1)
-            ∙ ap (laid (a .args .out .now) (a .args .at))
-            (rw (byte .directions .ensures) (sym (list-some (a .args .slots) (a .args .n) few (test .if1 .left)))),
-        list-length (a .args .slots) (a .args .n) few,
-      ),
+    let few : a .args .n ≤ length (a .args .slots) = omega (arith, a .good .0 .1 .0 .1, a .pre .0) in
+    rw (
+      second .put-slots .ensures,
+      first .put .ensures .1,
+      byte .directions .ensures,
+      list-some (a .args .slots) (a .args .n) few (test .if1 .left),
     )
+    (laid-on _ _ _ 1 _ _ (split-length 1 _) (first .put .ensures .0))
 
 pub put-list-spec : {M : Type 1} → statement M
 put-list-spec = tie.close (tie.spec none (λ c κs. search needs) (λ c. search needs) room slots-room (λ c. search needs) some)

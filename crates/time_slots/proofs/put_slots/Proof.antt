@@ -26,11 +26,9 @@ none-yet c = let e : c .before .args .at + 3 * 0 ≡ c .before .args .at = omega
 fits : tie.Need-put-requires Inv-loop μ-loop
 fits c κs =
     let turn = c .before .before .before in
-    let a = turn .before .before in (
-      some-fails descriptorTooLarge (a .args .t1) (a .args .n) (turn .loop .k) _ (omega (arith, a .good .0 .1 .0 .1)) (omega arith)
-          (a .pre .1 .0),
-      omega arith,
-    )
+    let a = turn .before .before in
+    some-fails descriptorTooLarge (a .args .t1) (a .args .n) (turn .loop .k) _ (omega (arith, a .good .0 .1 .0 .1)) (omega arith)
+    (a .pre .1 .0)
 
 one-less : tie.Need-loop-again Inv-loop μ-loop
 one-less c =
@@ -42,7 +40,7 @@ one-less c =
         stored .put .kept .1 .0 ∙ turn .loop .inv .1 .0,
         put-next descriptorBytes 3 (a .args .t1) (a .args .n) (turn .loop .k) _ (turn .loop .out) (a .args .at)
             (omega (arith, a .good .0 .1 .0 .1)) (omega arith)
-            (descriptor-length _) (stored .put .ensures .1)
+            (descriptor-length _) (stored .put .ensures)
             ∙ turn .loop .inv .1 .1,
       ),
     )
@@ -54,11 +52,10 @@ all : tie.Need-returns Inv-loop μ-loop
 all c =
     let l = c .before .loop in
     let a = c .before .before .before .args in
-    (refl, sym (put-done descriptorBytes 3 (a .t1) (a .n) (l .k) (l .out) (a .at + 3 * l .k) (omega arith)) ∙ l .inv .1 .1)
+    sym (put-done descriptorBytes 3 (a .t1) (a .n) (l .k) (l .out) (a .at + 3 * l .k) (omega arith)) ∙ l .inv .1 .1
 
 pub put-slots-spec : {M : Type 1} → statement M
 put-slots-spec =
     tie.close
     (tie.spec Inv-loop μ-loop none-yet (λ c. omega arith) (λ c. omega arith) (λ c. omega arith) (λ c. omega arith) fits (λ c. omega arith)
-    (λ c. omega arith) one-less
-    (λ c. omega arith) (λ c. omega arith) same-length all)
+    (λ c. omega arith) one-less same-length all)

@@ -32,5 +32,5 @@ write-spec =
     let size = room .before .before .before in
     let test = size .before in (
       stored (test .before .too-large .ensures) (test .if1 .left) (size .size .ensures .0) (room .before .left .ensures) (room .if2 .left),
-      c .before .before .put .ensures .1,
+      c .before .before .put .ensures,
     )))

@@ -20,11 +20,10 @@ returns : tie.Need-returns
 unfolding pendingBytes
 returns c =
     let second = c .before .before in
-    let first = second .before .before .before .before in (
-      omega (arith, second .put-lists .ensures .0, first .put .ensures .0),
-      laid-two _ _ 1 _ _ _ (split-length 1 _) (first .put .ensures .0)
-          (rw (first .before .before .header .ensures) at (first .put .ensures .1)) (second .put-lists .ensures .1),
-    )
+    let first = second .before .before .before .before in
+    let a = first .before .before .before .before .before .before in
+    laid-two _ _ 1 _ _ _ (split-length 1 _) (omega (arith, first .put .ensures .0, a .pre .1))
+    (rw (first .before .before .header .ensures) at (first .put .ensures .1)) (second .put-lists .ensures)
 
 pub put-spec : {M : Type 1} → statement M
 put-spec = tie.close (tie.spec (λ c κs. search needs) (λ c. search needs) (λ c κs. search needs) lists-room (λ c. search needs) returns)

@@ -1,5 +1,6 @@
 -- `pending::PendingAddress::read` meets its contract: its tests are the definition's, in turn.
 -- Assumes nothing.
+use native.Mathlib.Nat.{div-one}
 use borrow.Author.Needs.{needs}
 use Rattle.octets.proofs.Part.{fewer, enough}
 use Rattle.pending.specs.Pending.{pendingIn, readPending}
@@ -17,6 +18,7 @@ no-addresses c =
     let header = two .before .before in
     let one = header .before in
     simp (
+      div-one,
       enough (one .before .left .ensures) (one .if1 .left),
       fewer (two .before .left2 .ensures) (rw (header .u8-at .ensures) at (two .if2 .taken)),
       c .refused2 .ensures,
@@ -30,6 +32,7 @@ all c =
     let header = two .before .before in
     let one = header .before in
     simp (
+      div-one,
       enough (one .before .left .ensures) (one .if1 .left),
       enough (two .before .left2 .ensures) (rw (header .u8-at .ensures) at (two .if2 .left)),
       c .accepted .ensures,

@@ -1,5 +1,6 @@
 -- `superframe::SuperframeSpecification::at` meets its contract.
 -- Assumes nothing.
+use native.Mathlib.Nat.{div-one}
 use borrow.Author.Needs.{needs}
 use Rattle.superframe.specs.Superframe.{superframeIn}
 use Rattle.superframe.proofs.SuperframeSpecification.at.Statement.{statement}
@@ -8,6 +9,7 @@ use Rattle.superframe.proofs.SuperframeSpecification.at.Tie as tie
 returns : tie.Need-returns
 unfolding superframeIn
 returns c = simp (
+  div-one,
   c .from2 .ensures,
   c .before .from .ensures,
   c .before .before .u8-at2 .ensures,

@@ -2,7 +2,7 @@
 -- Assumes nothing.
 use mathlib.Core.Path.{refl}
 use borrow.Author.Needs.{needs}
-use Rattle.octets.proofs.Value.{too-large, no-room, all-room, stored}
+use Rattle.octets.proofs.Value.{too-large, plain, no-room, stored}
 use Rattle.time_slots.specs.Descriptor.{writeDescriptor}
 use Rattle.time_slots.proofs.GuaranteedTimeSlotDescriptor.write.Statement.{statement}
 use Rattle.time_slots.proofs.GuaranteedTimeSlotDescriptor.write.Tie as tie
@@ -18,13 +18,12 @@ write-spec =
     let test = c .before .before .before in
     (no-room (test .before .too-large .ensures) (test .if1 .left) refl (c .before .left .ensures) (c .if2 .taken), refl))
     (λ c κs.
-    let room = c .before in
-    let test = room .before .before .before in
-    all-room (test .before .too-large .ensures) (test .if1 .left) refl (room .before .left .ensures) (room .if2 .left))
+    let test = c .before .before .before .before in
+    plain (test .before .too-large .ensures) (test .if1 .left))
     (λ c. search needs)
     (λ c.
     let room = c .before .before .before .before in
     let test = room .before .before .before in (
       stored (test .before .too-large .ensures) (test .if1 .left) refl (room .before .left .ensures) (room .if2 .left),
-      c .before .before .put .ensures .1,
+      c .before .before .put .ensures,
     )))

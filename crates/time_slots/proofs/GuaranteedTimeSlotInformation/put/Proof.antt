@@ -2,9 +2,8 @@
 -- Assumes nothing.
 use native.Mathlib.Omega.{arith}
 use borrow.Author.Needs.{needs}
-use lib.ListN.{length-append}
 use Rattle.octets.proofs.Little.{split-length}
-use Rattle.octets.proofs.Buffer.{laid-two}
+use Rattle.octets.proofs.Buffer.{laid-on}
 use Rattle.time_slots.specs.TimeSlots.{timeSlotsBytes}
 use Rattle.time_slots.proofs.TimeSlots.{fitting}
 use Rattle.time_slots.proofs.GuaranteedTimeSlotInformation.put.Statement.{statement}
@@ -24,14 +23,9 @@ returns : tie.Need-returns
 unfolding timeSlotsBytes
 returns c =
     let second = c .before .before in
-    let first = second .before .before .before .before in (
-      omega (arith, second .put-list .ensures .0, first .put .ensures .0),
-      (
-        laid-two _ _ 1 _ _ _ (split-length 1 _) (first .put .ensures .0)
-            (rw (first .before .before .header .ensures) at (first .put .ensures .1)) (second .put-list .ensures .1 .0),
-        rw (length-append, split-length, second .put-list .ensures .1 .1),
-      ),
-    )
+    let first = second .before .before .before .before in
+    rw (second .put-list .ensures, first .put .ensures .1, first .before .before .header .ensures)
+    (laid-on _ _ _ 1 _ _ (split-length 1 _) (first .put .ensures .0))
 
 pub put-spec : {M : Type 1} → statement M
 put-spec = tie.close (tie.spec few (λ c. search needs) (λ c κs. search needs) list-room (λ c. search needs) returns)

@@ -1,6 +1,7 @@
 -- `time_slots::GuaranteedTimeSlotInformation::read` meets its contract: its tests are the definition's, in turn.
 -- Assumes nothing.
 use Prim.Native.Nat.{_%_}
+use native.Mathlib.Nat.{div-one}
 use native.Mathlib.Omega.{arith}
 use borrow.Author.Needs.{needs}
 use Rattle.octets.proofs.Part.{fewer, enough}
@@ -20,6 +21,7 @@ no-slots c =
     let header = two .before .before .before in
     let one = header .before in
     simp (
+      div-one,
       enough (one .before .left .ensures) (one .if1 .left),
       fewer (two .before .before .left2 .ensures) (rw (two .before .slots-demand .ensures .0, header .u8-at .ensures) at (two .if2 .taken)),
       c .refused2 .ensures,
@@ -46,6 +48,7 @@ all c =
     let header = two .before .before .before in
     let one = header .before in
     simp (
+      div-one,
       enough (one .before .left .ensures) (one .if1 .left),
       enough (two .before .before .left2 .ensures) (rw (two .before .slots-demand .ensures .0, header .u8-at .ensures) at (two .if2 .left)),
       c .accepted .ensures,
@@ -57,7 +60,6 @@ all c =
 pub read-spec : {M : Type 1} → statement M
 read-spec =
     tie.close
-    (tie.spec (λ c κs. search needs) (λ c κs. search needs) no-header (λ c κs. search needs) (λ c. search needs) (λ c κs. search needs)
-    (λ c κs. search needs)
-    (λ c. search needs) (λ c κs. search needs) no-slots (λ c. search needs) there (λ c κs. search needs) (λ c. search needs)
-    (λ c κs. search needs) all)
+    (tie.spec (λ c κs. search needs) (λ c κs. search needs) no-header (λ c κs. search needs) (λ c κs. search needs)
+    (λ c κs. search needs) (λ c. search needs) (λ c κs. search needs) no-slots (λ c. search needs) (λ c. search needs) there
+    (λ c κs. search needs) (λ c. search needs) (λ c κs. search needs) (λ c. search needs) all)

@@ -1,12 +1,18 @@
 -- `time_slots::GuaranteedTimeSlotInformation::write` meets its contract: the three ends of a writer, and `put` stores where there is room.
 -- Assumes nothing.
-use mathlib.Core.Path.{refl}
+use mathlib.Core.Path.{_≡_, refl, _∙_}
 use borrow.Author.Needs.{needs}
 use Rattle.octets.proofs.Value.{too-large, plain, no-room, all-room, stored}
-use Rattle.time_slots.specs.TimeSlots.{writeTimeSlots}
-use Rattle.time_slots.proofs.TimeSlots.{fitting}
+use Rattle.time_slots.specs.TimeSlots.{timeSlotsSize, writeTimeSlots}
+use Rattle.time_slots.proofs.TimeSlots.{plain-size}
 use Rattle.time_slots.proofs.GuaranteedTimeSlotInformation.write.Statement.{statement}
 use Rattle.time_slots.proofs.GuaranteedTimeSlotInformation.write.Tie as tie
+
+-- the size, where no number is too large
+whole : (c : tie.After-size) → c .size .result ≡ timeSlotsSize (c .before .before .before .before .args .self)
+whole c =
+    let test = c .before in
+    c .size .ensures .0 ∙ plain-size _ (plain (test .before .too-large .ensures) (test .if1 .left))
 
 pub write-spec : {M : Type 1} → statement M
 unfolding writeTimeSlots
@@ -14,24 +20,21 @@ write-spec =
     tie.close
     (tie.spec (λ c κs. search needs)
     (λ c. (too-large (c .before .too-large .ensures) _ (c .if1 .taken), refl))
-    (λ c κs. fitting _ (plain (c .before .too-large .ensures) (c .if1 .left)) .0)
-    (λ c κs. search needs) (λ c. search needs)
+    (λ c κs. search needs) (λ c κs. search needs) (λ c. search needs)
     (λ c.
     let size = c .before .before .before in
-    let test = size .before in (
-      no-room (test .before .too-large .ensures) (test .if1 .left) (size .size .ensures .0) (c .before .left .ensures) (c .if2 .taken),
-      refl,
-    ))
+    let test = size .before in
+    (no-room (test .before .too-large .ensures) (test .if1 .left) (whole size) (c .before .left .ensures) (c .if2 .taken), refl))
     (λ c κs.
     let room = c .before in
     let size = room .before .before .before in
     let test = size .before in
-    all-room (test .before .too-large .ensures) (test .if1 .left) (size .size .ensures .0) (room .before .left .ensures) (room .if2 .left))
+    all-room (test .before .too-large .ensures) (test .if1 .left) (whole size) (room .before .left .ensures) (room .if2 .left))
     (λ c. search needs)
     (λ c.
     let room = c .before .before .before .before in
     let size = room .before .before .before in
     let test = size .before in (
-      stored (test .before .too-large .ensures) (test .if1 .left) (size .size .ensures .0) (room .before .left .ensures) (room .if2 .left),
-      c .before .before .put .ensures .1 .0,
+      stored (test .before .too-large .ensures) (test .if1 .left) (whole size) (room .before .left .ensures) (room .if2 .left),
+      c .before .before .put .ensures,
     )))
