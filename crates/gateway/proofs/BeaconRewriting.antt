@@ -1,4 +1,4 @@
--- Rewriting a beacon: what measuring tells and clearing leaves is what rewriting promises of the two slices.
+-- Rewriting a beacon: what measuring tells is what rewriting answers, and its bytes copied and cleared are what rewriting leaves.
 -- Assumes nothing.
 use Prim.Native.Nat.{ℕ, zero, suc, _+_, _-_, _≤_, _<_}
 use native.Mathlib.Omega.{arith}
@@ -6,14 +6,13 @@ use mathlib.Core.Bool.{true, false, true≢false}
 use mathlib.Core.List.{List, _++_}
 use mathlib.Core.Path.{_≡_, refl, sym, ap, _∙_}
 use borrow.Author.Tests.{ltb-false, lt-ltb, le-ltb, eqb-true, eq-eqb, ne-eqb}
-use lib.Dec.{eqb}
+use lib.Dec.{ltb, eqb}
 use lib.ListN.{length, take, drop}
 use lib.Seq.{length-take-le}
 use Rattle.octets.specs.declared.Outcome.{Outcome}
-use Rattle.octets.specs.Bits.{clearAt}
-use Rattle.octets.specs.Outcome.{accepted, refused}
-use Rattle.octets.specs.Part.{ends}
+use Rattle.octets.specs.{Bits.clearAt, Buffer.laid, Outcome.accepted, Outcome.refused}
 use Rattle.octets.proofs.Bits.{clear-append, clear-length}
+use Rattle.octets.proofs.Buffer.{laid-all}
 use Rattle.octets.proofs.Cases.{cases, holds?}
 use Rattle.time_slots.specs.TimeSlots.{slotCountIn, timeSlotsLengthIn}
 use Rattle.beacon.specs.declared.BeaconRead.{BeaconRead}
@@ -21,7 +20,7 @@ use Rattle.beacon.specs.Beacon.{beaconLengthIn, readBeacon}
 use Rattle.beacon_facts.specs.Cleared.{clearDirections, beaconCleared}
 use Rattle.beacon_facts.proofs.Beacon.{all-found, beacon-read}
 use Rattle.beacon_measure.proofs.BeaconLength.{beacon-least}
-use Rattle.gateway.specs.Rewrite.{rewriteBeacon, beaconInto}
+use Rattle.gateway.specs.Rewrite.{rewriteBeacon}
 
 -- the listed bits cleared in front of other bytes
 directions-append : (n : ℕ) (l m : List ℕ) → 3 < length l → clearDirections n 3 (l ++ m) ≡ clearDirections n 3 l ++ m
@@ -50,6 +49,10 @@ slots-append n l m h =
     ∙ ap (clearDirections n 3) (clear-append (clearAt 1 5 1 l) m 2 3 4 (omega arith))
     ∙ directions-append n (clearAt 2 3 4 (clearAt 1 5 1 l)) m (omega arith)
 
+listed-length : (n header : ℕ) (l : List ℕ) → length (listedCleared n header l) ≡ length l
+listed-length n header l =
+    clear-length (clearAt header 7 1 (slotsCleared n l)) header 3 1 ∙ clear-length (slotsCleared n l) header 7 1 ∙ slots-length n l
+
 listed-append : (n header : ℕ) (l m : List ℕ) → 3 < length l → header < length l →
     listedCleared n header (l ++ m) ≡ listedCleared n header l ++ m
 listed-append n header l m h k =
@@ -59,71 +62,71 @@ listed-append n header l m h k =
     ∙ ap (clearAt header 3 1) (clear-append (slotsCleared n l) m header 7 1 (omega arith))
     ∙ clear-append (clearAt header 7 1 (slotsCleared n l)) m header 3 1 (omega arith)
 
--- what holds where rewriting accepts n bytes
-pub record BeaconAccepted (s out : List ℕ) (n : ℕ) : Type 0 where
-  pub four : 4 ≤ n
+-- what holds where rewriting into room bytes accepts n of them
+pub record BeaconAccepted (s : List ℕ) (room n : ℕ) : Type 0 where
+  pub end : n ≡ beaconLengthIn s 0
   pub within : n ≤ length s
-  pub room : n ≤ length out
+  pub fits : n ≤ room
+  pub four : 4 ≤ n
   pub inside : 2 + timeSlotsLengthIn s 2 < n
-  pub into : listedCleared (slotCountIn s 2) (2 + timeSlotsLengthIn s 2) (take n s ++ drop n out) ≡ beaconInto s out
 
-beacon-there : (s out : List ℕ) → readBeacon s 0 .outcome .number ≡ 0 → ends out 0 (beaconLengthIn s 0) ≡ false →
-    BeaconAccepted s out (beaconLengthIn s 0)
-unfolding rewriteBeacon beaconInto beaconCleared
-beacon-there s out read room =
-    let size = beaconLengthIn s 0 in
+beacon-there : (s : List ℕ) (room : ℕ) → readBeacon s 0 .outcome .number ≡ 0 → beaconLengthIn s 0 ≤ room →
+    BeaconAccepted s room (beaconLengthIn s 0)
+beacon-there s room read fits =
     let least = beacon-least s 0 in
-    let within = all-found s 0 (beacon-read s 0 read .1) in
-    let shorter : length (take size s) ≡ size = length-take-le size s (omega (arith, within)) in
     record {
+      end = refl;
+      within = omega (arith, all-found s 0 (beacon-read s 0 read .1));
+      fits = fits;
       four = least .0;
-      within = omega (arith, within);
-      room = omega (arith, ltb-false (length out - 0) size room);
       inside = omega (arith, least .1);
-      into =
-          listed-append (slotCountIn s 2) (2 + timeSlotsLengthIn s 2) (take size s) (drop size out) (omega (arith, least .0))
-          (omega (arith, least .1))
-          ∙ simp (eq-eqb _ 0 read, room);
     }
 
-pub beacon-accepted : (s out : List ℕ) (n : ℕ) → rewriteBeacon s out ≡ accepted n → BeaconAccepted s out n
+pub beacon-accepted : (s : List ℕ) (room n : ℕ) → rewriteBeacon s room ≡ accepted n → BeaconAccepted s room n
 unfolding rewriteBeacon
-beacon-accepted s out n e =
+beacon-accepted s room n e =
     cases (holds? (eqb (readBeacon s 0 .outcome .number) 0))
     (λ t.
-    cases (holds? (ends out 0 (beaconLengthIn s 0)))
+    cases (holds? (ltb room (beaconLengthIn s 0)))
     (λ u. let z : _≡_ {A = ℕ} 1 0 = ap (λ (o : Outcome). o .number) (simp (t, u) at e) in absurd (omega arith))
     (λ f.
     let size : beaconLengthIn s 0 ≡ n = ap (λ (o : Outcome). o .length) (simp (t, f) at e) in
-    rw size at (beacon-there s out (eqb-true _ 0 t) f)))
+    rw size at (beacon-there s room (eqb-true _ 0 t) (ltb-false room _ f))))
     (λ f. absurd (true≢false (sym (eq-eqb _ 0 (ap (λ (o : Outcome). o .number) (simp f at e))) ∙ f)))
 
--- what rewriting answers of what measuring told, and where it refuses, the output is as it was
-pub beacon-refused : (s out : List ℕ) (o : Outcome) → o ≡ readBeacon s 0 .outcome → (o .number ≡ 0 → ⊥) →
-    (o ≡ rewriteBeacon s out) × (out ≡ beaconInto s out)
-unfolding rewriteBeacon beaconInto
-beacon-refused s out o e f = rw (← e) (simp (ne-eqb (o .number) 0 f) (refl, refl))
+-- its bytes copied, and the listed bits cleared in the copy
+pub beacon-copied : (s out : List ℕ) (n : ℕ) → BeaconAccepted s (length out) n →
+    listedCleared (slotCountIn s 2) (2 + timeSlotsLengthIn s 2) (take n s ++ drop n out) ≡ laid out 0 (beaconCleared s 0)
+unfolding beaconCleared
+beacon-copied s out n q =
+    let count = slotCountIn s 2 in
+    let header = 2 + timeSlotsLengthIn s 2 in
+    let long = length-take-le n s (q .within) in
+    let cleared : listedCleared count header (take n s) ≡ beaconCleared s 0 =
+    ap (λ (n : ℕ). listedCleared count header (take n s)) (q .end) in
+    listed-append count header (take n s) (drop n out) (omega (arith, long, q .four)) (omega (arith, long, q .inside))
+    ∙ sym (laid-all out (listedCleared count header (take n s)) n (listed-length count header (take n s) ∙ long) (q .fits))
+    ∙ ap (laid out 0) cleared
 
--- the length that measuring told
-told-length : (s : List ℕ) (o : Outcome) → o ≡ readBeacon s 0 .outcome → o .number ≡ 0 → o .length ≡ beaconLengthIn s 0
-told-length s o e z =
-    ap (λ (o : Outcome). o .length) e
-    ∙ ap (λ (r : BeaconRead). r .outcome .length) (beacon-read s 0 (ap (λ (o : Outcome). o .number) (sym e) ∙ z) .0)
+-- what rewriting answers of what measuring told
+module _ (s : List ℕ) (room : ℕ) (o : Outcome) (e : o ≡ readBeacon s 0 .outcome) where
+  pub beacon-refused : (o .number ≡ 0 → ⊥) → o ≡ rewriteBeacon s room
+  unfolding rewriteBeacon
+  beacon-refused f = rw (← e) (simp (ne-eqb (o .number) 0 f))
 
-pub beacon-full : (s out : List ℕ) (o : Outcome) → o ≡ readBeacon s 0 .outcome → o .number ≡ 0 → length out < o .length →
-    (refused 1 ≡ rewriteBeacon s out) × (out ≡ beaconInto s out)
-unfolding rewriteBeacon beaconInto
-beacon-full s out o e z h =
-    let short : ends out 0 (beaconLengthIn s 0) ≡ true =
-    lt-ltb (length out - 0) (beaconLengthIn s 0) (omega (arith, told-length s o e z)) in
-    let read : eqb (readBeacon s 0 .outcome .number) 0 ≡ true = eq-eqb _ 0 (ap (λ (o : Outcome). o .number) (sym e) ∙ z) in
-    simp (read, short) (refl, refl)
+  module _ (z : o .number ≡ 0) where
+    read : eqb (readBeacon s 0 .outcome .number) 0 ≡ true
+    read = eq-eqb _ 0 (ap (λ (o : Outcome). o .number) (sym e) ∙ z)
 
-pub beacon-fits : (s out : List ℕ) (o : Outcome) → o ≡ readBeacon s 0 .outcome → o .number ≡ 0 → o .length ≤ length out →
-    rewriteBeacon s out ≡ accepted (o .length)
-unfolding rewriteBeacon
-beacon-fits s out o e z h =
-    let long = told-length s o e z in
-    let room : ends out 0 (beaconLengthIn s 0) ≡ false = le-ltb (length out - 0) (beaconLengthIn s 0) (omega (arith, long)) in
-    let read : eqb (readBeacon s 0 .outcome .number) 0 ≡ true = eq-eqb _ 0 (ap (λ (o : Outcome). o .number) (sym e) ∙ z) in
-    simp (read, room) (ap accepted (sym long))
+    long : o .length ≡ beaconLengthIn s 0
+    long =
+        ap (λ (o : Outcome). o .length) e
+        ∙ ap (λ (r : BeaconRead). r .outcome .length) (beacon-read s 0 (ap (λ (o : Outcome). o .number) (sym e) ∙ z) .0)
+
+    pub beacon-full : room < o .length → refused 1 ≡ rewriteBeacon s room
+    unfolding rewriteBeacon
+    beacon-full h = simp (read, lt-ltb room (beaconLengthIn s 0) (omega (arith, long)))
+
+    pub beacon-fits : o .length ≤ room → accepted (o .length) ≡ rewriteBeacon s room
+    unfolding rewriteBeacon
+    beacon-fits h = simp (read, le-ltb room (beaconLengthIn s 0) (omega (arith, long))) (ap accepted long)

@@ -1,2 +1,5 @@
 pub mod Sizes
 pub mod Passed
+pub mod Accepted
+pub mod Rewrites
+pub mod Cleared

@@ -8,13 +8,13 @@ use borrow.Author.Tests.{lt-ltb}
 use denote.Ref.{now}
 use lib.ListN.{length}
 use Rattle.octets.specs.Outcome.{refused}
-use Rattle.header.specs.Read.{readHeader, readOutcome}
+use Rattle.header_bytes.specs.Reading.{measured}
 use Rattle.gateway.specs.Code.{codeOf}
 use Rattle.gateway.proofs.knobtangle_read_header.Statement.{statement}
 use Rattle.gateway.proofs.knobtangle_read_header.Tie as tie
 
-ended : (s : List ℕ) → length s < 3 → refused 1 ≡ readOutcome (readHeader s)
-unfolding readHeader
+ended : (s : List ℕ) → length s < 3 → refused 1 ≡ measured s
+unfolding measured
 ended s h = rw (lt-ltb (length s) 3 h)
 
 below-three : tie.Need-returns
@@ -22,10 +22,10 @@ below-three c =
     let test = c .before .before in
     c .code .ensures ∙ ap codeOf (c .before .refused .ensures ∙ ended (now (test .before .before .args .frame)) (test .if1 .taken))
 
-measured : tie.Need-returns-2
-measured c = c .code2 .ensures ∙ ap codeOf (c .before .measure-header .ensures)
+others : tie.Need-returns-2
+others c = c .code2 .ensures ∙ ap codeOf (c .before .measure-header .ensures)
 
 pub knobtangle-read-header-spec : {M : Type 1} → statement M
 knobtangle-read-header-spec =
     tie.close
-    (tie.spec (λ c κs. search needs) (λ c κs. search needs) below-three (λ c κs. search needs) (λ c κs. search needs) measured)
+    (tie.spec (λ c κs. search needs) (λ c κs. search needs) below-three (λ c κs. search needs) (λ c κs. search needs) others)

@@ -1,10 +1,13 @@
 -- `gateway::knobtangle_rewrite_beacon` meets its contract: a beacon that is there and has room is copied, another leaves the output.
 -- Assumes nothing.
-use mathlib.Core.Path.{sym, ap, _∙_}
+use mathlib.Core.Path.{refl, sym, ap, _∙_}
+use native.Mathlib.Omega.{arith}
 use borrow.Author.Needs.{needs}
 use denote.Ref.{now}
+use lib.ListN.{length}
 use Rattle.gateway.specs.Code.{codeOf}
 use Rattle.gateway.proofs.BeaconRewriting.{beacon-refused, beacon-full, beacon-fits}
+use Rattle.gateway.proofs.Output.{kept, stored}
 use Rattle.gateway.proofs.knobtangle_rewrite_beacon.Statement.{statement}
 use Rattle.gateway.proofs.knobtangle_rewrite_beacon.Tie as tie
 
@@ -12,8 +15,8 @@ refused : tie.Need-returns
 refused c =
     let call = c .before .before .before in
     let a = call .before .before .before .args in
-    let q = beacon-refused (now (a .content)) (now (a .out)) _ (call .measure-beacon .ensures) (c .before .if1 .taken) in
-    (c .code .ensures ∙ ap codeOf (q .0), q .1)
+    let answer = beacon-refused (now (a .content)) (length (now (a .out))) _ (call .measure-beacon .ensures) (c .before .if1 .taken) in
+    (c .code .ensures ∙ ap codeOf answer, kept _ _ answer (c .before .if1 .taken))
 
 full : tie.Need-returns-2
 full c =
@@ -21,8 +24,9 @@ full c =
     let read = room .before .before in
     let call = read .before .before in
     let a = call .before .before .before .args in
-    let q = beacon-full (now (a .content)) (now (a .out)) _ (call .measure-beacon .ensures) (read .if1 .left) (room .if2 .taken) in
-    (c .code2 .ensures ∙ ap codeOf (c .before .refused .ensures ∙ q .0), q .1)
+    let answer =
+    beacon-full (now (a .content)) (length (now (a .out))) _ (call .measure-beacon .ensures) (read .if1 .left) (room .if2 .taken) in
+    (c .code2 .ensures ∙ ap codeOf (c .before .refused .ensures ∙ answer), kept _ _ answer (λ z. omega arith))
 
 accepts : tie.Need-put-beacon-requires
 accepts c κs =
@@ -30,7 +34,7 @@ accepts c κs =
     let read = room .before .before in
     let call = read .before .before in
     let a = call .before .before .before .args in
-    beacon-fits (now (a .content)) (now (a .out)) _ (call .measure-beacon .ensures) (read .if1 .left) (room .if2 .left)
+    sym (beacon-fits (now (a .content)) (length (now (a .out))) _ (call .measure-beacon .ensures) (read .if1 .left) (room .if2 .left))
 
 written : tie.Need-returns-3
 written c =
@@ -39,8 +43,9 @@ written c =
     let read = room .before .before in
     let call = read .before .before in
     let a = call .before .before .before .args in
-    let q = beacon-fits (now (a .content)) (now (a .out)) _ (call .measure-beacon .ensures) (read .if1 .left) (room .if2 .left) in
-    (sym (ap codeOf q), copying .put-beacon .ensures)
+    let answer =
+    beacon-fits (now (a .content)) (length (now (a .out))) _ (call .measure-beacon .ensures) (read .if1 .left) (room .if2 .left) in
+    (ap codeOf answer, copying .put-beacon .ensures ∙ stored _ _ answer refl)
 
 pub knobtangle-rewrite-beacon-spec : {M : Type 1} → statement M
 knobtangle-rewrite-beacon-spec =

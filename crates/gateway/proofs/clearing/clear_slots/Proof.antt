@@ -1,4 +1,4 @@
--- `clearing::clear_slots` meets its contract: each clearing finds what the one before left.
+-- `gateway::clearing::clear_slots` meets its contract: each clearing finds what the one before left.
 -- Assumes nothing.
 use mathlib.Core.List.{List}
 use mathlib.Core.Path.{ap, _∙_}
@@ -6,8 +6,8 @@ use Prim.Native.Nat.{ℕ}
 use borrow.Author.Needs.{needs}
 use Rattle.octets.specs.Bits.{clearAt}
 use Rattle.beacon_facts.specs.Cleared.{clearDirections}
-use Rattle.clearing.proofs.clear_slots.Statement.{statement}
-use Rattle.clearing.proofs.clear_slots.Tie as tie
+use Rattle.gateway.proofs.clearing.clear_slots.Statement.{statement}
+use Rattle.gateway.proofs.clearing.clear_slots.Tie as tie
 
 returns : tie.Need-returns
 returns c =

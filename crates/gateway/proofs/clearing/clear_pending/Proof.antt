@@ -1,10 +1,10 @@
--- `clearing::clear_pending` meets its contract: the second clearing finds what the first left.
+-- `gateway::clearing::clear_pending` meets its contract: the second clearing finds what the first left.
 -- Assumes nothing.
 use mathlib.Core.Path.{ap, _∙_}
 use borrow.Author.Needs.{needs}
 use Rattle.octets.specs.Bits.{clearAt}
-use Rattle.clearing.proofs.clear_pending.Statement.{statement}
-use Rattle.clearing.proofs.clear_pending.Tie as tie
+use Rattle.gateway.proofs.clearing.clear_pending.Statement.{statement}
+use Rattle.gateway.proofs.clearing.clear_pending.Tie as tie
 
 returns : tie.Need-returns
 returns c =

@@ -2,10 +2,9 @@
 // measures first.
 ghost use Rattle.octets.specs.Words.{_<_, true, _≡_, length};
 ghost use Rattle.octets.specs.Bits.{bit, clear, clearAt};
-ghost use Rattle.header_facts.specs.Order.{fromEnd};
-ghost use Rattle.header_facts.specs.RoundTrip.{clearedBy};
+ghost use Rattle.header_bytes.specs.{Layout.sourceEnd, Cleared.clearedBy};
 ghost use Rattle.beacon_facts.specs.Cleared.{clearDirections};
-use header_measure::addresses_end;
+use header_bytes::source_end;
 
 // A byte with count bits from bit at on cleared.
 fn cleared(b: u8, at: u8, count: u8) -> u8
@@ -28,15 +27,15 @@ fn clear_at(at: u8, count: u8, out: &mut [u8], place: usize)
 }
 
 // Clears the listed bits of a header at the beginning, by its frame control. Asks that their bytes are there.
-pub fn clear_header(w: usize, out: &mut [u8])
+pub(crate) fn clear_header(w: usize, out: &mut [u8])
     requires { ⌜ 1 < length (now out) ⌝ }
-    requires { ⌜ (bit w 3 ≡ true → fromEnd w < length (now out)) ⌝ }
+    requires { ⌜ (bit w 3 ≡ true → sourceEnd w < length (now out)) ⌝ }
     ensures { λ r. ⌜ now (out .exit) ≡ clearedBy w (now (out .entry)) ⌝ }
 {
     clear_at(7, 1, out, 0);
     clear_at(0, 2, out, 1);
     if w / 8 % 2 == 1 {
-        clear_at(5, 3, out, addresses_end(w));
+        clear_at(5, 3, out, source_end(w));
     }
 }
 
@@ -54,7 +53,7 @@ fn clear_directions(n: u8, out: &mut [u8])
 
 // Clears the listed bits of a beacon with n slots at the beginning, up to its descriptors. Asks that their bytes are
 // there, and n below 8.
-pub fn clear_slots(n: u8, out: &mut [u8])
+pub(crate) fn clear_slots(n: u8, out: &mut [u8])
     requires { ⌜ n < 8 ⌝ }
     requires { ⌜ 3 < length (now out) ⌝ }
     ensures { λ r. ⌜ now (out .exit) ≡ clearDirections n 3 (clearAt 2 3 4 (clearAt 1 5 1 (now (out .entry)))) ⌝ }
@@ -65,7 +64,7 @@ pub fn clear_slots(n: u8, out: &mut [u8])
 }
 
 // Clears the listed bits of a pending header. Asks that it is there.
-pub fn clear_pending(out: &mut [u8], at: usize)
+pub(crate) fn clear_pending(out: &mut [u8], at: usize)
     requires { ⌜ at < length (now out) ⌝ }
     ensures { λ r. ⌜ now (out .exit) ≡ clearAt at 3 1 (clearAt at 7 1 (now (out .entry))) ⌝ }
 {

@@ -1,11 +1,11 @@
--- `clearing::clear_directions` meets its contract: by whether there are slots.
+-- `gateway::clearing::clear_directions` meets its contract: by whether there are slots.
 -- Assumes nothing.
 use mathlib.Core.Path.{_∙_}
 use borrow.Author.Needs.{needs}
 use denote.Ref.{now}
-use Rattle.clearing.proofs.Shifts.{directions-some, directions-none}
-use Rattle.clearing.proofs.clear_directions.Statement.{statement}
-use Rattle.clearing.proofs.clear_directions.Tie as tie
+use Rattle.gateway.proofs.Shifts.{directions-some, directions-none}
+use Rattle.gateway.proofs.clearing.clear_directions.Statement.{statement}
+use Rattle.gateway.proofs.clearing.clear_directions.Tie as tie
 
 some : tie.Need-returns
 some c =

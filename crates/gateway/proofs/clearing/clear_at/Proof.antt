@@ -1,11 +1,11 @@
--- `clearing::clear_at` meets its contract: the byte at the place is stored cleared.
+-- `gateway::clearing::clear_at` meets its contract: the byte at the place is stored cleared.
 -- Assumes nothing.
 use mathlib.Core.Path.{ap}
 use borrow.Author.Needs.{needs}
 use lib.ListN.{set}
 use denote.Ref.{now}
-use Rattle.clearing.proofs.clear_at.Statement.{statement}
-use Rattle.clearing.proofs.clear_at.Tie as tie
+use Rattle.gateway.proofs.clearing.clear_at.Statement.{statement}
+use Rattle.gateway.proofs.clearing.clear_at.Tie as tie
 
 returns : tie.Need-returns
 returns c =

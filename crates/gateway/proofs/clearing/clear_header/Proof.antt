@@ -1,4 +1,4 @@
--- `clearing::clear_header` meets its contract: each clearing finds what the one before left, and the third is there with the security bit.
+-- `gateway::clearing::clear_header` meets its contract: each clearing finds what the one before left; the security bit tells of the third.
 -- Assumes nothing.
 use Prim.Native.Nat.{ℕ}
 use mathlib.Core.List.{List}
@@ -7,9 +7,9 @@ use native.Mathlib.Omega.{arith}
 use borrow.Author.Needs.{needs}
 use borrow.Author.Tests.{eq-eqb, ne-eqb}
 use Rattle.octets.specs.Bits.{clearAt}
-use Rattle.header_facts.specs.Order.{fromEnd}
-use Rattle.clearing.proofs.clear_header.Statement.{statement}
-use Rattle.clearing.proofs.clear_header.Tie as tie
+use Rattle.header_bytes.specs.Layout.{sourceEnd}
+use Rattle.gateway.proofs.clearing.clear_header.Statement.{statement}
+use Rattle.gateway.proofs.clearing.clear_header.Tie as tie
 
 control-there : tie.Need-clear-at-requires-3
 control-there c κs =
@@ -17,7 +17,7 @@ control-there c κs =
     let second = test .before .before .before in
     let first = second .before .before .before .before in
     let asked = first .before .before .before .pre in
-    (omega arith, (omega arith, omega (arith, asked .1 (eq-eqb _ _ (test .if1 .taken)), c .addresses-end .ensures .0)))
+    (omega arith, (omega arith, omega (arith, asked .1 (eq-eqb _ _ (test .if1 .taken)), c .source-end .ensures .0)))
 
 secured : tie.Need-returns
 secured c =
@@ -29,8 +29,8 @@ secured c =
     let w = first .before .before .before .args .w in
     simp (eq-eqb _ _ (test .if1 .taken))
     (third .clear-at3 .ensures
-    ∙ (λ i. clearAt (end .addresses-end .ensures .0 i) 5 3 (second .clear-at2 .ensures i))
-    ∙ ap (λ (l : List ℕ). clearAt (fromEnd w) 5 3 (clearAt 1 0 2 l)) (first .clear-at .ensures))
+    ∙ (λ i. clearAt (end .source-end .ensures .0 i) 5 3 (second .clear-at2 .ensures i))
+    ∙ ap (λ (l : List ℕ). clearAt (sourceEnd w) 5 3 (clearAt 1 0 2 l)) (first .clear-at .ensures))
 
 plain : tie.Need-returns-2
 plain c =

@@ -1,11 +1,11 @@
--- `clearing::cleared` meets its contract: a shifted one is a power of two, and the bits are a part of the byte.
+-- `gateway::clearing::cleared` meets its contract: a shifted one is a power of two, and the bits are a part of the byte.
 -- Assumes nothing.
 use native.Mathlib.Omega.{arith}
 use borrow.Author.Needs.{needs}
 use Rattle.octets.proofs.Bits.{shifted-one}
-use Rattle.clearing.proofs.Shifts.{shifted-some, shifted-part}
-use Rattle.clearing.proofs.cleared.Statement.{statement}
-use Rattle.clearing.proofs.cleared.Tie as tie
+use Rattle.gateway.proofs.Shifts.{shifted-some, shifted-part}
+use Rattle.gateway.proofs.clearing.cleared.Statement.{statement}
+use Rattle.gateway.proofs.clearing.cleared.Tie as tie
 
 divides : tie.Need-rem-result
 divides c = shifted-some (c .args .count) (c .pre .1)
