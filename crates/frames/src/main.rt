@@ -1,9 +1,11 @@
 // The line program: for each line of standard input, a label and a frame in hex, its label with the header's refusal
 // number and length. The work is done by `lines`, the reading and writing by `line_io`.
 ghost use Rattle.octets.specs.Words.{_+_, _*_, _≤_, _≡_, length, take};
-ghost use Rattle.line_cutter.specs.Answers.{fedTo};
+ghost use Rattle.octets.specs.Buffer.{laid};
+ghost use Rattle.line_cutter.specs.Answers.{answers, fedTo};
 ghost use Rattle.line_cutter.specs.Line.{keptMost};
-ghost use Rattle.line_answer.specs.Answer.{answer};
+ghost use Rattle.line_cutter.specs.Lines.{last};
+ghost use Rattle.lines.specs.Answer.{answer};
 use line_cutter::KEPT_MOST;
 use line_io::ENDED;
 use line_io::FAILED;
@@ -51,6 +53,8 @@ fn end(line: &[u8], n: usize, out: &mut [u8])
     requires { ⌜ n ≤ keptMost ⌝ }
     requires { ⌜ length (now line) ≡ keptMost ⌝ }
     requires { ⌜ keptMost + 5 ≤ length (now out) ⌝ }
+    ensures { λ r. ⌜ now (out .exit)
+        ≡ laid (now (out .entry)) 0 (answers answer (last (take n (now (line .entry))))) ⌝ }
 {
     let used = lines::finish(line, n, out);
     line_io::write_all(&out[..used]);

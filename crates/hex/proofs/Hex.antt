@@ -6,12 +6,16 @@ use native.Mathlib.Omega.{arith}
 use mathlib.Core.Bool.{true, false, _&&_, and-false, true≢false, false≢true}
 use mathlib.Core.List.{List, [], _∷_}
 use mathlib.Core.Path.{_≡_, refl, sym, ap, _∙_}
-use borrow.Author.Tests.{ltb-true, ltb-false}
+use borrow.Author.Tests.{ltb-true, ltb-false, lt-ltb, le-ltb}
 use lib.Dec.{ltb}
-use lib.ListN.{length, getD, take, drop, length-take, drop-of-length-le}
-use lib.Seq.{drop-cons, take-nil}
+use lib.ListN.{length, getD, take, drop, length-append, length-take, drop-of-length-le, List·getD-append}
+use lib.Seq.{drop-cons, take-nil, getD-at}
+use Rattle.octets.specs.Buffer.{laid}
+use Rattle.octets.specs.Little.{Bytes}
 use Rattle.octets.proofs.Cases.{cases, holds?}
-use Rattle.hex.specs.Hex.{digit, isDigit, worth, odd, foreign, unhex, decoded}
+use Rattle.octets.proofs.Little.{bytes-drop}
+use Rattle.octets.proofs.Stored.{front}
+use Rattle.hex.specs.Hex.{digit, isDigit, worth, worths, odd, foreign, unhex, pairBy, unhexBy, decoded, decodedBy}
 
 -- two elements and what follows them
 two : (s : List ℕ) (i : ℕ) → i + 1 < length s → drop i s ≡ getD s i 0 ∷ getD s (i + 1) 0 ∷ drop (i + 2) s
@@ -21,47 +25,82 @@ two s i h =
     let e : i + 2 ≡ suc (suc i) = omega arith in
     rw (e, add-one i, drop-cons s i 0 f, drop-cons s (suc i) 0 g)
 
--- what a byte counts for in a pair
-pub worth-small : (b : ℕ) → worth b ≤ 256
-worth-small b = cases (holds? (isDigit b)) (λ e. simp e (omega (arith, ltb-true (digit b) 16 e))) (λ e. simp e (omega arith))
+-- decoding by a table goes a pair at a time, up to a pair that makes more than a byte, or where fewer than two bytes are left
+module _ (table s : List ℕ) where
+  pub by-pair : (i pair : ℕ) → i + 1 < length s → pair ≡ pairBy table (getD s i 0) (getD s (i + 1) 0) → pair ≤ 255 →
+      unhexBy table (drop i s) ≡ pair ∷ unhexBy table (drop (i + 2) s)
+  unfolding unhexBy
+  by-pair i pair h e g = let l : pair < 256 = omega arith in rw (two s i h, sym e) (simp (lt-ltb pair 256 l))
 
--- a pair that is no more than a byte is two digits, and is that byte
-pair-digits : (a b pair : ℕ) → pair ≡ 16 * worth a + worth b → pair ≤ 255 → (isDigit a ≡ true) × (isDigit b ≡ true)
-pair-digits a b pair e h =
-    cases (holds? (isDigit a))
-    (λ t. cases (holds? (isDigit b)) (λ u. (t, u)) (λ u. let f : pair ≡ 16 * worth a + 256 = simp u at e in absurd (omega arith)))
-    (λ t. let f : pair ≡ 16 * 256 + worth b = simp t at e in absurd (omega arith))
+  pub by-other : (i pair : ℕ) → i + 1 < length s → pair ≡ pairBy table (getD s i 0) (getD s (i + 1) 0) → 255 < pair →
+      unhexBy table (drop i s) ≡ []
+  unfolding unhexBy
+  by-other i pair h e g = let l : 256 ≤ pair = omega arith in rw (two s i h, sym e) (simp (le-ltb pair 256 l))
 
-pub unhex-pair : (s : List ℕ) (i pair : ℕ) → i + 1 < length s → pair ≡ 16 * worth (getD s i 0) + worth (getD s (i + 1) 0) → pair ≤ 255 →
-    unhex (drop i s) ≡ pair ∷ unhex (drop (i + 2) s)
-unfolding unhex
-unhex-pair s i pair h e g =
-    let d = pair-digits (getD s i 0) (getD s (i + 1) 0) pair e g in
-    let f : pair ≡ 16 * digit (getD s i 0) + digit (getD s (i + 1) 0) = simp (d .0, d .1) at e in
-    rw (two s i h) (simp (d .0, d .1) (ap (λ (b : ℕ). b ∷ unhex (drop (i + 2) s)) (sym f)))
+  pub by-end : (i : ℕ) → length s ≤ i + 1 → unhexBy table (drop i s) ≡ []
+  unfolding unhexBy
+  by-end i h = cases (holds? (ltb i (length s)))
+      (λ e.
+      let f : i < length s = ltb-true i (length s) e in
+      let g : length s ≤ suc i = omega arith in
+      rw (drop-cons s i 0 f, drop-of-length-le s g))
+      (λ e. rw (drop-of-length-le s (ltb-false i (length s) e)))
 
--- decoding stops at any other pair, and where fewer than two bytes are left
-pub unhex-other : (s : List ℕ) (i pair : ℕ) → i + 1 < length s → pair ≡ 16 * worth (getD s i 0) + worth (getD s (i + 1) 0) → 255 < pair →
-    unhex (drop i s) ≡ []
-unfolding unhex
-unhex-other s i pair h e g =
-    let a = getD s i 0 in
-    let b = getD s (i + 1) 0 in
-    rw (two s i h)
+-- the table of values has what each byte counts for
+worths-length : (n : ℕ) → length (worths n) ≡ n
+unfolding worths
+worths-length zero = refl
+worths-length (suc n) = rw (length-append, worths-length n) (omega arith)
+
+worths-at : (n b : ℕ) → b < n → getD (worths n) b 0 ≡ worth b
+unfolding worths
+worths-at zero b h = absurd (omega arith)
+worths-at (suc n) b h =
+    cases (holds? (ltb b n))
+    (λ t.
+    let k : b < n = ltb-true b n t in
+    List·getD-append (worths n) (worth n ∷ []) 0 b (rw (worths-length n) k) ∙ worths-at n b k)
+    (λ t.
+    let e : n ≡ b = omega (arith, ltb-false b n t) in
+    getD-at (worths n) (worth n) [] 0 b (worths-length n ∙ e) ∙ ap worth e)
+
+-- so a pair that by it makes no more than a byte is two digits, and what they stand for
+by-values : (s : List ℕ) → Bytes s → unhexBy (worths 256) s ≡ unhex s
+unfolding unhexBy unhex
+by-values [] h = refl
+by-values (a ∷ []) h = refl
+by-values (a ∷ b ∷ s) h =
+    rw (worths-at 256 a (h .0), worths-at 256 b (h .1 .0))
     (cases (holds? (isDigit a))
     (λ t.
     cases (holds? (isDigit b))
     (λ u.
-    let f : pair ≡ 16 * digit a + digit b = simp (t, u) at e in
-    absurd (omega (arith, ltb-true (digit a) 16 t, ltb-true (digit b) 16 u)))
-    (λ u. simp (u, and-false)))
-    (λ t. simp t))
+    let l : 16 * digit a + digit b < 256 = omega (arith, ltb-true (digit a) 16 t, ltb-true (digit b) 16 u) in
+    simp (t, u, lt-ltb _ _ l, by-values s (h .1 .1)))
+    (λ u. let l : 256 ≤ 16 * digit a + 256 = omega arith in simp (t, u, le-ltb _ _ l)))
+    (λ t. let l : 256 ≤ 16 * 256 + worth b = omega arith in simp (t, le-ltb _ _ l)))
 
-pub unhex-end : (s : List ℕ) (i : ℕ) → length s ≤ i + 1 → unhex (drop i s) ≡ []
-unfolding unhex
-unhex-end s i h = cases (holds? (ltb i (length s)))
-    (λ e. let f : i < length s = ltb-true i (length s) e in let g : length s ≤ suc i = omega arith in rw (drop-cons s i 0 f, drop-of-length-le s g))
-    (λ e. rw (drop-of-length-le s (ltb-false i (length s) e)))
+pub by-digits : (table s : List ℕ) (at room : ℕ) → table ≡ worths 256 → Bytes s → decodedBy table s at room ≡ decoded s at room
+by-digits table s at room e h = rw (e, by-values (drop at s) (bytes-drop at s h))
+
+-- what decoding answers and stores, with room for so many bytes: the bytes that the digits stand for, at the buffer's front
+pub record Decoding (s : List ℕ) (at room n : ℕ) (stored : List ℕ) : Type 0 where
+  pub count : n ≡ length (decoded s at room)
+  pub few : n ≤ room
+  pub bytes : take n stored ≡ decoded s at room
+
+pub decoding : (table s out stored : List ℕ) (at n room : ℕ) → table ≡ worths 256 → Bytes s → length out ≡ room →
+    (n ≡ length (decodedBy table s at (length out))) × (stored ≡ laid out 0 (decodedBy table s at (length out))) →
+    Decoding s at room n stored
+decoding table s out stored at n room e h long d =
+    let same : decodedBy table s at (length out) ≡ decoded s at room = rw long (by-digits table s at room e h) in
+    let count : n ≡ length (decoded s at room) = d .0 ∙ ap length same in
+    let few : n ≤ room = omega (arith, count, length-take room (unhex (drop at s))) in
+    record {
+      count = count;
+      few = few;
+      bytes = ap (take n) (d .1 ∙ ap (laid out 0) same) ∙ front out (decoded s at room) n (sym count) (omega (arith, few, long));
+    }
 
 -- they are at most half as many as the digits
 pub unhex-length : (s : List ℕ) → 2 * length (unhex s) ≤ length s
@@ -126,33 +165,30 @@ whole-good (a ∷ b ∷ s) h =
     (odd-two a b s ∙ r .0, foreign-two a b s e ∙ r .1))
     (λ e. let k : 0 ≡ suc (suc (length s)) = simp e at h in absurd (omega arith))
 
--- what is left to decode from the pair n on, with room for so many bytes in all
-abbrev pub rest : List ℕ → ℕ → ℕ → ℕ → List ℕ
-rest s at room n = take (room - n) (unhex (drop (at + 2 * n) s))
+-- what is left to decode by a table from the pair n on, with room for so many bytes in all
+module _ (table s : List ℕ) (at room : ℕ) where
+  abbrev pub rest : ℕ → List ℕ
+  rest n = take (room - n) (unhexBy table (drop (at + 2 * n) s))
 
-pub rest-all : (s : List ℕ) (at room : ℕ) → rest s at room 0 ≡ decoded s at room
-rest-all s at room =
-    let e : room - 0 ≡ room = omega arith in
-    let f : at + 2 * 0 ≡ at = omega arith in
-    rw (e, f)
+  pub rest-all : rest 0 ≡ decodedBy table s at room
+  rest-all =
+      let e : room - 0 ≡ room = omega arith in
+      let f : at + 2 * 0 ≡ at = omega arith in
+      rw (e, f)
 
-pub rest-pair : (s : List ℕ) (at room n pair : ℕ) → n < room → at + 2 * n + 1 < length s →
-    pair ≡ 16 * worth (getD s (at + 2 * n) 0) + worth (getD s (at + 2 * n + 1) 0) → pair ≤ 255 →
-    rest s at room n ≡ pair ∷ rest s at room (n + 1)
-rest-pair s at room n pair h k e g =
-    let a : room - n ≡ suc (room - (n + 1)) = omega arith in
-    let b : at + 2 * n + 2 ≡ at + 2 * (n + 1) = omega arith in
-    rw (unhex-pair s (at + 2 * n) pair k e g, a, b)
+  pub rest-pair : (n pair : ℕ) → n < room → at + 2 * n + 1 < length s →
+      pair ≡ pairBy table (getD s (at + 2 * n) 0) (getD s (at + 2 * n + 1) 0) → pair ≤ 255 →
+      rest n ≡ pair ∷ rest (n + 1)
+  rest-pair n pair h k e g =
+      let a : room - n ≡ suc (room - (n + 1)) = omega arith in
+      let b : at + 2 * n + 2 ≡ at + 2 * (n + 1) = omega arith in
+      rw (by-pair table s (at + 2 * n) pair k e g, a, b)
 
-pub rest-none : (s : List ℕ) (at room n : ℕ) → unhex (drop (at + 2 * n) s) ≡ [] → rest s at room n ≡ []
-rest-none s at room n e = rw (e, take-nil)
+  pub rest-none : (n : ℕ) → unhexBy table (drop (at + 2 * n) s) ≡ [] → rest n ≡ []
+  rest-none n e = rw (e, take-nil)
 
-pub rest-end : (s : List ℕ) (at room n : ℕ) → n ≡ min ((length s - at) / 2) room → rest s at room n ≡ []
-rest-end s at room n e =
-    cases (holds? (ltb n room))
-    (λ t. let h : n < room = ltb-true n room t in rest-none s at room n (unhex-end s (at + 2 * n) (omega arith)))
-    (λ t. let h : room ≤ n = ltb-false n room t in let z : room - n ≡ 0 = omega arith in rw z)
-
--- no more bytes than there is room for
-pub decoded-room : (s : List ℕ) (at room : ℕ) → length (decoded s at room) ≤ room
-decoded-room s at room = omega (arith, length-take room (unhex (drop at s)))
+  pub rest-end : (n : ℕ) → n ≡ min ((length s - at) / 2) room → rest n ≡ []
+  rest-end n e =
+      cases (holds? (ltb n room))
+      (λ t. let h : n < room = ltb-true n room t in rest-none n (by-end table s (at + 2 * n) (omega arith)))
+      (λ t. let h : room ≤ n = ltb-false n room t in let z : room - n ≡ 0 = omega arith in rw z)

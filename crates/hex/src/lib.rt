@@ -1,7 +1,7 @@
 // Bytes in hex, two digits of either case to a byte. The table of values is made once for many lines and lent.
-ghost use Rattle.octets.specs.Words.{_-_, _/_, min, _≡_, length};
+ghost use Rattle.octets.specs.Words.{_+_, _-_, _*_, _/_, min, _≡_, length};
 ghost use Rattle.octets.specs.Buffer.{laid};
-ghost use Rattle.hex.specs.Hex.{worth, Values, decoded};
+ghost use Rattle.hex.specs.Hex.{worth, worths, decoded, decodedBy};
 use octets::least;
 use octets::left;
 
@@ -36,9 +36,9 @@ fn value(b: u8) -> u16
     }
 }
 
-// The value of each byte as a digit.
+// The table of what each byte counts for in a pair of digits.
 pub fn values() -> [u16; 256]
-    ensures { λ r. ⌜ Values r ⌝ }
+    ensures { λ r. ⌜ r ≡ worths 256 ⌝ }
 {
     let mut table = [0u16; 256];
     let mut b = 0;
@@ -56,21 +56,27 @@ fn most(s: &[u8], at: usize, room: usize) -> usize
     least(left(s, at) / 2, room)
 }
 
-// Decodes the pairs of digits from a place of s on into out, up to the first pair that is not two digits or the end of
-// out's room, and returns how many bytes that gave. The digits are whole, neither odd nor foreign, where twice that
-// many end s. Asks that values has the value of each byte.
+// What two digits make, by what each counts for.
+fn pair_of(high: u16, low: u16) -> u32
+    ensures { λ r. ⌜ r ≡ 16 * high + low ⌝ }
+{
+    16 * high as u32 + low as u32
+}
+
+// Decodes the pairs of digits from a place of s on into out, by a lent table of what each byte counts for, up to the
+// first pair that makes more than a byte or the end of out's room, and returns how many bytes that gave.
 pub fn decode_by(s: &[u8], at: usize, values: &[u16; 256], out: &mut [u8]) -> usize
-    requires { ⌜ Values (now values) ⌝ }
-    ensures { λ r. ⌜ r ≡ length (decoded (now (s .entry)) at (length (now (out .entry)))) ⌝ }
+    ensures { λ r. ⌜ r ≡ length (decodedBy (now (values .entry)) (now (s .entry)) at (length (now (out .entry)))) ⌝ }
     ensures { λ r. ⌜ now (out .exit)
-        ≡ laid (now (out .entry)) 0 (decoded (now (s .entry)) at (length (now (out .entry)))) ⌝ }
+        ≡ laid (now (out .entry)) 0
+        (decodedBy (now (values .entry)) (now (s .entry)) at (length (now (out .entry)))) ⌝ }
 {
     let end = most(s, at, out.len());
     let mut n = 0;
     while n < end {
         let high = values[s[at + 2 * n] as usize];
         let low = values[s[at + 2 * n + 1] as usize];
-        let pair = 16 * high + low;
+        let pair = pair_of(high, low);
         if pair > 255 {
             return n;
         }
@@ -80,7 +86,8 @@ pub fn decode_by(s: &[u8], at: usize, values: &[u16; 256], out: &mut [u8]) -> us
     n
 }
 
-// The same with a table of its own.
+// The same with the table of `values`: up to the first pair that is not two digits. The digits are whole, neither odd
+// nor foreign, where twice as many as the bytes end s.
 pub fn decode(s: &[u8], at: usize, out: &mut [u8]) -> usize
     ensures { λ r. ⌜ r ≡ length (decoded (now (s .entry)) at (length (now (out .entry)))) ⌝ }
     ensures { λ r. ⌜ now (out .exit)

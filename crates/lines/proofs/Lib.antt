@@ -1,2 +1,4 @@
+pub mod Answer
+pub mod Chunks
 pub mod Quick
 pub mod Whole

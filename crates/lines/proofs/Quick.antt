@@ -16,10 +16,10 @@ use Rattle.line_cutter.specs.Line.{lineMost, before}
 use Rattle.line_cutter.proofs.Line.{Free, free-append, free-first, free-second, before-part}
 use Rattle.hex.specs.Hex.{unhex, decoded}
 use Rattle.hex.proofs.Hex.{unhex-take, whole-good}
-use Rattle.line_answer.specs.Answer.{said, answer}
+use Rattle.lines.specs.Answer.{said, answer}
 use Rattle.octets.specs.Stored.{Stored}
 use Rattle.lines.specs.Place.{isAt}
-use Rattle.line_answer.proofs.Answer.{feed-foreign, foreign-free, answer-good}
+use Rattle.lines.proofs.Answer.{feed-foreign, foreign-free, answer-good}
 use Rattle.line_cutter.proofs.Answers.{fed-line}
 use Rattle.octets.proofs.Stored.{same}
 

@@ -6,8 +6,8 @@ use mathlib.Core.Path.{_≡_}
 use Rattle.line_cutter.specs.Answers.{output, printed}
 use Rattle.line_cutter.specs.Lines.{joined}
 use Rattle.line_cutter.proofs.Answers.{printed-whole}
-use Rattle.line_answer.specs.Answer.{answer}
-use Rattle.line_answer.proofs.Answer.{answer-front}
+use Rattle.lines.specs.Answer.{answer}
+use Rattle.lines.proofs.Answer.{answer-front}
 
 pub frames-printed : (cs : List (List ℕ)) → printed answer [] cs ≡ output answer (joined cs)
 frames-printed = printed-whole answer answer-front

@@ -1,29 +1,34 @@
-// The line program on slices: what a chunk of the input adds to the output, and what its end adds. The functions ask
-// for room (`requires`); the line at hand is the first n bytes of a buffer of KEPT_MOST.
+// The line program on slices: what a chunk of the input adds to the output, and what its end adds. The line at hand is
+// the first n bytes of a buffer of KEPT_MOST.
+mod one_line;
+
 ghost use Rattle.octets.specs.Words.{_+_, _-_, _*_, _≤_, _<_, [], _++_, _≡_, length, take, drop, replicate};
 ghost use Rattle.octets.specs.Stored.{Stored};
-ghost use Rattle.hex.specs.Hex.{Values};
-ghost use Rattle.line_cutter.specs.Answers.{Onward, answers, fedTo};
+ghost use Rattle.hex.specs.Hex.{worths};
+ghost use Rattle.line_cutter.specs.Answers.{Onward, fedTo};
 ghost use Rattle.line_cutter.specs.Line.{keptMost};
-ghost use Rattle.line_cutter.specs.Lines.{last};
-ghost use Rattle.line_answer.specs.Answer.{answer};
+ghost use Rattle.lines.specs.Answer.{answer};
+ghost use Rattle.lines.specs.Chunks.{takes, feeding, ending};
 ghost use Rattle.lines.specs.Place.{isAt};
 use hex::decode_by;
 use hex::values;
-use line_answer::FRAME_MOST;
-use line_answer::put_answer;
-use line_answer::put_good;
+use line_cutter::KEPT_MOST;
 use line_cutter::LINE_MOST;
 use line_cutter::cut;
 use line_cutter::find;
+use octets::left;
+use one_line::FRAME_MOST;
+use one_line::put_answer;
+use one_line::put_good;
 
-// How many bytes of the line at hand are kept, and how much of the output is used.
+// How many bytes of the line at hand are kept, how much of the output is used, and whether the chunk was taken.
 pub struct Fed {
     pub n: usize,
     pub used: usize,
+    pub taken: bool,
 }
 
-// The same in the midst of a chunk, with the place up to which the chunk is used.
+// In the midst of a chunk: the first two, and the place up to which the chunk is used.
 struct Step {
     n: usize,
     used: usize,
@@ -44,7 +49,7 @@ fn put_line(
     requires { ⌜ length (now line) ≡ keptMost ⌝ }
     requires { ⌜ at < length (now chunk) ⌝ }
     requires { ⌜ used + n + 5 * (length (now chunk) - at) ≤ length (now out) ⌝ }
-    requires { ⌜ Values (now values) ⌝ }
+    requires { ⌜ now values ≡ worths 256 ⌝ }
     ensures { λ r. ⌜ fedTo answer (take (r .n) (now (line .exit))) (drop (r .at) (now (chunk .entry)))
         (now (out .exit)) (r .used)
         ≡ fedTo answer (take n (now (line .entry))) (drop at (now (chunk .entry))) (now (out .entry)) used ⌝ }
@@ -88,7 +93,7 @@ fn put_quick(
     requires { ⌜ at ≤ length (now chunk) ⌝ }
     requires { ⌜ length (now frame) ≡ 512 ⌝ }
     requires { ⌜ used + 5 * (length (now chunk) - at) ≤ length (now out) ⌝ }
-    requires { ⌜ Values (now values) ⌝ }
+    requires { ⌜ now values ≡ worths 256 ⌝ }
     ensures { λ r. ⌜ fedTo answer [] (drop (r .at) (now (chunk .entry))) (now (out .exit)) (r .used)
         ≡ fedTo answer [] (drop at (now (chunk .entry))) (now (out .entry)) used ⌝ }
     ensures { λ r. ⌜ r .n ≡ 0 ⌝ }
@@ -133,7 +138,7 @@ fn put_next(
     requires { ⌜ at < length (now chunk) ⌝ }
     requires { ⌜ length (now frame) ≡ 512 ⌝ }
     requires { ⌜ used + n + 5 * (length (now chunk) - at) ≤ length (now out) ⌝ }
-    requires { ⌜ Values (now values) ⌝ }
+    requires { ⌜ now values ≡ worths 256 ⌝ }
     ensures { λ r. ⌜ fedTo answer (take (r .n) (now (line .exit))) (drop (r .at) (now (chunk .entry)))
         (now (out .exit)) (r .used)
         ≡ fedTo answer (take n (now (line .entry))) (drop at (now (chunk .entry))) (now (out .entry)) used ⌝ }
@@ -153,7 +158,7 @@ fn put_next(
 
 // A chunk of the input: stores the answers to the lines that end in it, and keeps what has come of the next line;
 // behind that the line buffer holds what it happens to.
-fn feed_lines(chunk: &[u8], line: &mut [u8], n: usize, out: &mut [u8]) -> Fed
+fn feed_lines(chunk: &[u8], line: &mut [u8], n: usize, out: &mut [u8]) -> Step
     requires { ⌜ n ≤ keptMost ⌝ }
     requires { ⌜ length (now line) ≡ keptMost ⌝ }
     requires { ⌜ keptMost + 5 * length (now chunk) ≤ length (now out) ⌝ }
@@ -173,7 +178,7 @@ fn feed_lines(chunk: &[u8], line: &mut [u8], n: usize, out: &mut [u8]) -> Fed
         used = next.used;
         at = next.at;
     }
-    Fed { n: held, used }
+    Step { n: held, used, at }
 }
 
 // Stores zeros from a place of a line buffer on.
@@ -188,33 +193,63 @@ fn blank(line: &mut [u8], from: usize)
     }
 }
 
-// A chunk of the input, of any length: stores the answers to the lines that end in it, from the beginning of out, and
-// keeps what has come of the next line, its first KEPT_MOST bytes, with zeros behind it. Asks for a line of that
-// many bytes with at most as many in use, and for room: five bytes for each of the chunk, and KEPT_MOST.
-pub fn feed(chunk: &[u8], line: &mut [u8], n: usize, out: &mut [u8]) -> Fed
-    requires { ⌜ n ≤ keptMost ⌝ }
-    requires { ⌜ length (now line) ≡ keptMost ⌝ }
-    requires { ⌜ keptMost + 5 * length (now chunk) ≤ length (now out) ⌝ }
-    ensures { λ r. ⌜ record { out = now (out .exit); used = r .used; kept = take (r .n) (now (line .exit)) }
-        ≡ fedTo answer (take n (now (line .entry))) (now (chunk .entry)) (now (out .entry)) 0 ⌝ }
-    ensures { λ r. ⌜ (r .n ≤ keptMost) × (r .used ≤ length (now (out .entry))) ⌝ }
-    ensures { λ r. ⌜ now (line .exit) ≡ take (r .n) (now (line .exit)) ++ replicate (keptMost - r .n) 0 ⌝ }
+// Whether a chunk of so many bytes is taken, with n bytes in use of a line buffer and room in an output.
+fn takes(size: usize, line: usize, n: usize, room: usize) -> bool
+    ensures { λ r. ⌜ r ≡ takes size line n room ⌝ }
 {
-    let fed = feed_lines(chunk, line, n, out);
-    blank(line, fed.n);
-    fed
+    if line != KEPT_MOST {
+        return false;
+    }
+    if n > KEPT_MOST {
+        return false;
+    }
+    if room < KEPT_MOST {
+        return false;
+    }
+    size <= (room - KEPT_MOST) / 5
 }
 
-// The end of the input: stores the answer to a last line that was not ended. Asks that its n bytes are there, and for
-// room: them and five.
+// A chunk of the input, of any length: stores the answers to the lines that end in it, from the beginning of out, and
+// keeps what has come of the next line, its first KEPT_MOST bytes, with zeros behind it. It is taken with a line buffer
+// of that many bytes, at most as many of them in use, and room: KEPT_MOST bytes, and five for each of the chunk. Any
+// other call is refused: nothing is stored, n stays, and nothing is used.
+pub fn feed(chunk: &[u8], line: &mut [u8], n: usize, out: &mut [u8]) -> Fed
+    ensures { λ r. ⌜ r ≡ feeding (now (chunk .entry)) (now (line .entry)) n (now (out .entry)) .fed ⌝ }
+    ensures { λ r. ⌜ now (line .exit) ≡ feeding (now (chunk .entry)) (now (line .entry)) n (now (out .entry)) .line ⌝ }
+    ensures { λ r. ⌜ now (out .exit) ≡ feeding (now (chunk .entry)) (now (line .entry)) n (now (out .entry)) .out ⌝ }
+    ensures { λ r. ⌜ r .used ≤ length (now (out .entry)) ⌝ }
+{
+    if !takes(chunk.len(), line.len(), n, out.len()) {
+        return Fed {
+            n,
+            used: 0,
+            taken: false,
+        };
+    }
+    let end = feed_lines(chunk, line, n, out);
+    blank(line, end.n);
+    Fed {
+        n: end.n,
+        used: end.used,
+        taken: true,
+    }
+}
+
+// The end of the input: stores the answer to a last line that was not ended, from the beginning of out, and returns how
+// much that is. Where its n bytes are not there, or there is no room for them and five, nothing is stored and 0 is
+// returned; no answer is empty, so for n above 0 that tells the refusal.
 pub fn finish(line: &[u8], n: usize, out: &mut [u8]) -> usize
-    requires { ⌜ n ≤ length (now line) ⌝ }
-    requires { ⌜ n + 5 ≤ length (now out) ⌝ }
     ensures { λ r. ⌜ Stored (now (out .entry)) 0
-        (answers answer (last (take n (now (line .entry))))) (now (out .exit)) r ⌝ }
-    ensures { λ r. ⌜ r ≤ n + 5 ⌝ }
+        (ending (now (line .entry)) n (length (now (out .entry)))) (now (out .exit)) r ⌝ }
+    ensures { λ r. ⌜ r ≤ length (now (out .entry)) ⌝ }
 {
     if n == 0 {
+        return 0;
+    }
+    if n > line.len() {
+        return 0;
+    }
+    if n > left(out, 5) {
         return 0;
     }
     let values = values();

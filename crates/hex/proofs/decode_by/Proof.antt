@@ -8,8 +8,8 @@ use borrow.Author.Needs.{needs}
 use lib.ListN.{length, getD, length-set}
 use Rattle.octets.specs.Buffer.{laid}
 use Rattle.octets.proofs.Buffer.{laid-none, laid-cons}
-use Rattle.hex.specs.Hex.{worth, decoded}
-use Rattle.hex.proofs.Hex.{worth-small, unhex-other, rest, rest-all, rest-pair, rest-none, rest-end}
+use Rattle.hex.specs.Hex.{decodedBy}
+use Rattle.hex.proofs.Hex.{by-other, rest, rest-all, rest-pair, rest-none, rest-end}
 use Rattle.hex.proofs.decode_by.Statement.{statement}
 use Rattle.hex.proofs.decode_by.Tie as tie
 
@@ -19,8 +19,8 @@ Inv-loop s at values out₀ end n₀ out n =
     × (end ≤ length out₀)
     × (2 * end ≤ length s - at)
     × (length out ≡ length out₀)
-    × (laid out n (rest s at (length out₀) n) ≡ laid out₀ 0 (decoded s at (length out₀)))
-    × (n + length (rest s at (length out₀) n) ≡ length (decoded s at (length out₀)))
+    × (laid out n (rest values s at (length out₀) n) ≡ laid out₀ 0 (decodedBy values s at (length out₀)))
+    × (n + length (rest values s at (length out₀) n) ≡ length (decodedBy values s at (length out₀)))
 
 abbrev μ-loop : tie.MeasureT-loop
 μ-loop s at values out₀ end n₀ out n = end - n
@@ -28,10 +28,10 @@ abbrev μ-loop : tie.MeasureT-loop
 loop-holds : tie.Need-loop-holds Inv-loop μ-loop
 loop-holds c =
     let a = c .before .before .before .args in
-    let e = rest-all (a .s .now) (a .at) (length (a .out .now)) in
+    let e = rest-all (a .values .now) (a .s .now) (a .at) (length (a .out .now)) in
     (omega arith, omega arith, omega arith, refl, ap (laid (a .out .now) 0) e, omega (arith, ap length e))
 
--- the table has the values of the two bytes at hand
+-- the two bytes at hand are bytes
 high-byte : (c : tie.After-shared-slice-known2 Inv-loop μ-loop) →
     let a = c .before .before .before .before .before .before .args in
     getD (a .s .now) (a .at + 2 * c .before .before .loop .n) 0 < 256
@@ -46,36 +46,13 @@ low-byte c =
     let a = c .before .before .before .before .before .before .before .before .args in
     omega (arith, c .shared-slice-known3 .given (a .at + 2 * c .before .before .before .before .loop .n + 1))
 
--- the pair that they make
-pair : (c : tie.After-low Inv-loop μ-loop) →
-    let l = c .before .before .before .before .before .loop in
-    let a = c .before .before .before .before .before .before .before .before .before .args in
-    let i = a .at + 2 * l .n in
-    16 * getD (a .values .now) (getD (a .s .now) i 0) 0 + getD (a .values .now) (getD (a .s .now) (i + 1) 0) 0
-    ≡ 16 * worth (getD (a .s .now) i 0) + worth (getD (a .s .now) (i + 1) 0)
-pair c =
-    let low = c .before in
-    let high = low .before .before in
-    let start = c .before .before .before .before .before .before .before .before .before in
-    rw (start .pre _ (high-byte high), start .pre _ (low-byte low))
-
-small : (c : tie.After-low Inv-loop μ-loop) →
-    let l = c .before .before .before .before .before .loop in
-    let a = c .before .before .before .before .before .before .before .before .before .args in
-    let i = a .at + 2 * l .n in
-    (getD (a .values .now) (getD (a .s .now) i 0) 0 ≤ 256) × (getD (a .values .now) (getD (a .s .now) (i + 1) 0) 0 ≤ 256)
-small c =
-    let low = c .before in
-    let high = low .before .before in
-    let start = c .before .before .before .before .before .before .before .before .before in
-    (rw (start .pre _ (high-byte high)) (worth-small _), rw (start .pre _ (low-byte low)) (worth-small _))
-
 loop-again : tie.Need-loop-again Inv-loop μ-loop
 loop-again c =
-    let two = c .before in
-    let l = two .before .before .before .before .before .loop in
-    let a = two .before .before .before .before .before .before .before .before .before .args in
-    let e = rest-pair (a .s .now) (a .at) (length (a .out .now)) (l .n) _ (omega arith) (omega arith) (pair two) (c .if1 .left) in (
+    let p = c .before in
+    let l = p .before .before .before .before .before .before .loop in
+    let a = p .before .before .before .before .before .before .before .before .before .before .args in
+    let e = rest-pair (a .values .now) (a .s .now) (a .at) (length (a .out .now)) (l .n) _ (omega arith) (omega arith)
+    (p .pair-of .ensures) (c .if1 .left) in (
       omega arith,
       l .inv .1,
       l .inv .2,
@@ -91,25 +68,26 @@ done out₀ out left all n e f z = (omega (arith, ap length z), sym (laid-none o
 
 other : tie.Need-returns Inv-loop μ-loop
 other c =
-    let two = c .before in
-    let l = two .before .before .before .before .before .loop in
-    let a = two .before .before .before .before .before .before .before .before .before .args in
+    let p = c .before in
+    let l = p .before .before .before .before .before .before .loop in
+    let a = p .before .before .before .before .before .before .before .before .before .before .args in
     done _ _ _ _ _ (l .inv .4) (l .inv .5)
-    (rest-none _ _ _ (l .n) (unhex-other (a .s .now) (a .at + 2 * l .n) _ (omega arith) (pair two) (c .if1 .taken)))
+    (rest-none _ _ _ _ (l .n)
+    (by-other (a .values .now) (a .s .now) (a .at + 2 * l .n) _ (omega arith) (p .pair-of .ensures) (c .if1 .taken)))
 
 all : tie.Need-returns-2 Inv-loop μ-loop
 all c =
     let l = c .before .loop in
     let m = c .before .before in
     let a = m .before .before .before .args in
-    done _ _ _ _ _ (l .inv .4) (l .inv .5) (rest-end (a .s .now) (a .at) (length (a .out .now)) (l .n) (omega (arith, m .most .ensures)))
+    done _ _ _ _ _ (l .inv .4) (l .inv .5)
+    (rest-end (a .values .now) (a .s .now) (a .at) (length (a .out .now)) (l .n) (omega (arith, m .most .ensures)))
 
 pub decode-by-spec : {M : Type 1} → statement M
 decode-by-spec =
     tie.close
     (tie.spec Inv-loop μ-loop (λ c κs. search needs) loop-holds (λ c. search needs) (λ c. search needs) (λ c. search needs)
-    (λ c. omega (arith, high-byte c))
-    (λ c. omega (arith, high-byte c)) high-byte (λ c. search needs) (λ c. search needs) (λ c. search needs) (λ c. search needs)
-    (λ c. omega (arith, low-byte c)) (λ c. omega (arith, low-byte c)) low-byte (λ c. omega (arith, small c .0))
-    (λ c. omega (arith, small c .0, small c .1)) (λ c. search needs) other (λ c. search needs) (λ c. search needs)
-    (λ c. search needs) (λ c. search needs) loop-again (λ c. search needs) all)
+    (λ c. omega (arith, high-byte c)) (λ c. omega (arith, high-byte c)) high-byte (λ c. search needs) (λ c. search needs)
+    (λ c. search needs) (λ c. search needs) (λ c. omega (arith, low-byte c)) (λ c. omega (arith, low-byte c)) low-byte
+    (λ c κs. search needs) (λ c. search needs) other (λ c. search needs) (λ c. search needs) (λ c. search needs)
+    (λ c. search needs) loop-again (λ c. search needs) all)

@@ -1,34 +1,49 @@
--- `lines::feed` meets its contract: what is kept of the next line stays, and zeros stand behind it.
+-- `lines::feed` meets its contract: a chunk that is not taken leaves all as it was; of one that is, what is kept of the next line stays,
+-- and zeros are stored behind it.
 -- Assumes nothing.
-use Prim.Native.Nat.{ℕ, _-_, _≤_}
 use native.Mathlib.Omega.{arith}
-use mathlib.Core.List.{List, _++_}
-use mathlib.Core.Path.{_≡_, sym, ap, _∙_}
+use mathlib.Core.Bool.{true, false}
+use mathlib.Core.Path.{_≡_, sym, _∙_}
 use borrow.Author.Needs.{needs}
-use lib.ListN.{length, take, replicate}
-use lib.Seq.{length-take-le, take-at}
-use Rattle.line_cutter.specs.Line.{keptMost}
+use borrow.Author.Tests.{not-true, not-false}
+use lib.ListN.{length}
+use Rattle.lines.specs.Chunks.{takes}
+use Rattle.lines.proofs.Chunks.{line-long, few-kept, room-there, fed-refused, fed-taken}
 use Rattle.lines.proofs.feed.Statement.{statement}
 use Rattle.lines.proofs.feed.Tie as tie
 
--- a line buffer l with n bytes in use, and the same with zeros behind them
-module _ (l m : List ℕ) (n : ℕ) (long : length l ≡ keptMost) (h : n ≤ keptMost) (e : m ≡ take n l ++ replicate (length l - n) 0) where
-  kept : take n m ≡ take n l
-  kept = ap (take n) e ∙ take-at (take n l) (replicate (length l - n) 0) n (length-take-le n l (omega arith))
+-- what the test tells
+refused : (c : tie.Then1) →
+    let a = c .before .before .before .before .before .args in
+    takes (length (a .chunk .now)) (length (a .line .now)) (a .n) (length (a .out .now)) ≡ false
+refused c = sym (c .before .takes .ensures) ∙ not-true _ (c .if1 .taken)
 
-  zeros : m ≡ take n m ++ replicate (keptMost - n) 0
-  zeros = e ∙ ap (λ (k : ℕ). take n l ++ replicate (k - n) 0) long ∙ ap (λ (t : List ℕ). t ++ replicate (keptMost - n) 0) (sym kept)
+taken : (c : tie.Else1) →
+    let a = c .before .before .before .before .before .args in
+    takes (length (a .chunk .now)) (length (a .line .now)) (a .n) (length (a .out .now)) ≡ true
+taken c = sym (c .before .takes .ensures) ∙ not-false _ (c .if1 .left)
 
-returns : tie.Need-returns
-returns c =
+room : tie.Need-feed-lines-requires
+room c κs =
+    let t = taken (c .before .before) in
+    (few-kept _ _ _ _ t, (line-long _ _ _ _ t, room-there _ _ _ _ t))
+
+still : tie.Need-returns
+still c =
+    let a = c .before .before .before .before .before .args in
+    let s = fed-refused (a .chunk .now) (a .line .now) (a .n) (a .out .now) (refused c) in
+    (s .0, (s .1 .0, (s .1 .1, omega arith)))
+
+fed : tie.Need-returns-2
+fed c =
     let b = c .before .before in
     let f = b .before .before .before .before .before .before in
-    let s = f .before .before .before .before .before .before in
-    let fed = f .feed-lines .ensures in
-    let long = f .feed-lines .kept .1 .0 ∙ s .pre .1 .0 in (
-      rw (kept _ _ (f .feed-lines .result .n) long (fed .1 .0) (b .blank .ensures)) (fed .0),
-      (fed .1, zeros _ _ (f .feed-lines .result .n) long (fed .1 .0) (b .blank .ensures)),
-    )
+    let e = f .before .before .before in
+    let a = e .before .before .before .before .before .args in
+    let d = f .feed-lines .ensures in
+    let s = fed-taken (a .chunk .now) (a .line .now) (a .n) (a .out .now) _ _ (f .feed-lines .result .n) (f .feed-lines .result .used)
+    (taken e) (d .0) (f .feed-lines .kept .1 .0 ∙ line-long _ _ _ _ (taken e)) (d .1 .0) in
+    (s .0, (b .blank .ensures ∙ s .1 .0, (s .1 .1, d .1 .1)))
 
 pub feed-spec : {M : Type 1} → statement M
-feed-spec = tie.close (tie.spec (λ c κs. search needs) (λ c κs. search needs) (λ c. search needs) (λ c. search needs) returns)
+feed-spec = tie.close (tie.spec (λ c κs. search needs) still room (λ c κs. search needs) (λ c. search needs) (λ c. search needs) fed)

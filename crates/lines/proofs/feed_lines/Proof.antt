@@ -10,7 +10,7 @@ use lib.Seq.{length-take-le}
 use Rattle.line_cutter.specs.Answers.{fedTo}
 use Rattle.line_cutter.specs.Line.{keptMost}
 use Rattle.line_cutter.proofs.Answers.{fed-done}
-use Rattle.line_answer.specs.Answer.{answer}
+use Rattle.lines.specs.Answer.{answer}
 use Rattle.lines.proofs.feed_lines.Statement.{statement}
 use Rattle.lines.proofs.feed_lines.Tie as tie
 

@@ -7,8 +7,8 @@ use borrow.Author.Needs.{needs}
 use lib.ListN.{length, take}
 use lib.Seq.{length-take-le}
 use Rattle.line_cutter.proofs.Cutting.{cut-small, cut-used, cut-held, cut-ended, cut-open}
-use Rattle.line_answer.specs.Answer.{answer}
-use Rattle.line_answer.proofs.Answer.{answer-front}
+use Rattle.lines.specs.Answer.{answer}
+use Rattle.lines.proofs.Answer.{answer-front}
 use Rattle.lines.proofs.put_line.Statement.{statement}
 use Rattle.lines.proofs.put_line.Tie as tie
 

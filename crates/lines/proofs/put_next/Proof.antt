@@ -4,7 +4,7 @@ use native.Mathlib.Omega.{arith}
 use mathlib.Core.Path.{_≡_, _∙_}
 use borrow.Author.Needs.{needs}
 use Rattle.line_cutter.proofs.Answers.{fed-empty, fed-still}
-use Rattle.line_answer.specs.Answer.{answer}
+use Rattle.lines.specs.Answer.{answer}
 use Rattle.lines.proofs.put_next.Statement.{statement}
 use Rattle.lines.proofs.put_next.Tie as tie
 

@@ -9,13 +9,12 @@ use borrow.Author.Needs.{needs}
 use borrow.Author.Tests.{not-false}
 use lib.ListN.{length, take, drop, length-drop}
 use lib.Seq.{length-take-le}
-use Rattle.octets.specs.Buffer.{laid}
-use Rattle.hex.specs.Hex.{decoded}
-use Rattle.hex.proofs.Hex.{decoded-room}
-use Rattle.line_answer.specs.Answer.{said}
+use Rattle.hex.proofs.Hex.{Decoding, decoding}
+use Rattle.lines.specs.Answer.{said}
 use Rattle.lines.specs.Place.{isAt}
 use Rattle.lines.proofs.Quick.{there, quick-fed}
-use Rattle.octets.proofs.Stored.{same, front}
+use Rattle.octets.proofs.Little.{bytes-known}
+use Rattle.octets.proofs.Stored.{same}
 use Rattle.lines.proofs.put_quick.Statement.{statement}
 use Rattle.lines.proofs.put_quick.Tie as tie
 
@@ -28,30 +27,17 @@ tab-within : (c : tie.Else1) →
     c .before .before .find .result < length (c .before .before .before .before .before .before .args .chunk .now)
 tab-within c = there (c .before .before .before .before .before .before .args .chunk .now) (c .before .before .find .result) 9 (tab-there c) .0
 
--- the bytes that are decoded behind it stand at the beginning of the frame
-count : (c : tie.After-decode-by) →
+-- the bytes that the digits behind it stand for are decoded, and stand at the frame's beginning
+digits : (c : tie.After-decode-by) →
     let f = c .before .before .before .before in
-    c .decode-by .result ≡ length (decoded (f .before .before .before .before .args .chunk .now) (f .find .result + 1) 512)
-count c =
+    Decoding (f .before .before .before .before .args .chunk .now) (f .find .result + 1) 512 (c .decode-by .result)
+    (c .decode-by .last .1 .1 .1 .0)
+digits c =
     let f = c .before .before .before .before in
-    let s = f .before .before .before .before in
-    c .decode-by .ensures .0 ∙ ap (λ (k : ℕ). length (decoded (s .args .chunk .now) (f .find .result + 1) k)) (s .pre .1 .0)
-
-few : (c : tie.After-decode-by) → c .decode-by .result ≤ 512
-few c =
-    let f = c .before .before .before .before in
-    omega (arith, count c, decoded-room (f .before .before .before .before .args .chunk .now) (f .find .result + 1) 512)
-
-bytes : (c : tie.After-decode-by) →
-    let f = c .before .before .before .before in
-    take (c .decode-by .result) (c .decode-by .last .1 .1 .1 .0) ≡ decoded (f .before .before .before .before .args .chunk .now) (f .find .result + 1) 512
-bytes c =
-    let f = c .before .before .before .before in
-    let s = f .before .before .before .before in
-    ap (take (c .decode-by .result))
-    (c .decode-by .ensures .1
-    ∙ ap (λ (k : ℕ). laid (s .args .frame .now) 0 (decoded (s .args .chunk .now) (f .find .result + 1) k)) (s .pre .1 .0))
-    ∙ front (s .args .frame .now) _ (c .decode-by .result) (sym (count c)) (omega (arith, few c, s .pre .1 .0))
+    let k = f .before .before .before in
+    let s = k .before in
+    decoding _ (s .args .chunk .now) _ _ (f .find .result + 1) _ 512 (s .pre .1 .1 .1)
+    (bytes-known (s .args .chunk .now) (k .shared-slice-known .given)) (s .pre .1 .0) (c .decode-by .ensures)
 
 -- a line feed ends the digits
 feed-there : (c : tie.Else2) →
@@ -95,9 +81,9 @@ good c =
     let f = d .before .before .before .before in
     let s = f .before .before .before .before in
     let a = s .args in (
-      quick-fed (a .chunk .now) (a .at) (f .find .result) (d .decode-by .result) (f .find .ensures) (tab-there (d .before .before)) (count d) (feed-there e)
+      quick-fed (a .chunk .now) (a .at) (f .find .result) (d .decode-by .result) (f .find .ensures) (tab-there (d .before .before)) (digits d .count) (feed-there e)
           (x .if3 .left) (a .out .now) _ (a .used) (p .put-good .result)
-          (same (ap (λ (u : List ℕ). take (f .find .result - a .at) (drop (a .at) (a .chunk .now)) ++ said u) (bytes d)) (p .put-good .ensures .0)),
+          (same (ap (λ (u : List ℕ). take (f .find .result - a .at) (drop (a .at) (a .chunk .now)) ++ said u) (digits d .bytes)) (p .put-good .ensures .0)),
       (refl, (omega (arith, f .find .ensures), (omega (arith, feed-within e), omega (arith, p .put-good .ensures .1, label e, feed-within e, f .find .ensures)))),
     )
 
@@ -116,10 +102,11 @@ put-quick-spec =
     tie.close
     (tie.spec (λ c κs. search needs) (λ c κs. search needs) (λ c. (refl, still (c .before .before .before .before .before .before)))
     (λ c. omega (arith, tab-within c)) (λ c κs. search needs)
-    (λ c. omega (arith, tab-within (c .before .before .before .before))) (λ c. omega (arith, few (c .before .before)))
-    (λ c. omega (arith, tab-within (c .before .before .before .before), few (c .before .before))) (λ c κs. search needs) (λ c. search needs)
+    (λ c. omega (arith, tab-within (c .before .before .before .before))) (λ c. omega (arith, digits (c .before .before) .few))
+    (λ c. omega (arith, tab-within (c .before .before .before .before), digits (c .before .before) .few)) (λ c κs. search needs) (λ c. search needs)
     (λ c. (refl, still (start (c .before .before .before .before)))) (λ c. search needs) (λ c. search needs)
     (λ c. (refl, still (start (c .before .before .before .before .before)))) (λ c. search needs) (λ c. search needs)
     (λ c. omega (arith, tab-within (c .before .before .before .before .before .before .before))) (λ c. search needs)
-    (λ c. let d = c .before .before .before .before .before .before .before in count d ∙ sym (ap length (bytes d))) room (λ c. search needs)
+    (λ c. let d = c .before .before .before .before .before .before .before in digits d .count ∙ sym (ap length (digits d .bytes)))
+    room (λ c. search needs)
     (λ c. search needs) (λ c. search needs) good)

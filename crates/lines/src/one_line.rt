@@ -1,8 +1,8 @@
-// The answer to one line, stored into a buffer. The functions ask for room (`requires`).
-ghost use Rattle.octets.specs.Words.{_+_, _≤_, _<_, [], _∷_, _++_, length};
-ghost use Rattle.hex.specs.Hex.{Values};
+// The answer to one line, stored into a buffer: building blocks of this crate, which ask for room (`requires`).
+ghost use Rattle.octets.specs.Words.{_+_, _≤_, _<_, [], _∷_, _++_, _≡_, length};
+ghost use Rattle.hex.specs.Hex.{worths};
 ghost use Rattle.line_cutter.specs.Line.{lineFeed};
-ghost use Rattle.line_answer.specs.Answer.{decimal, told, said, bad, answer};
+ghost use Rattle.lines.specs.Answer.{decimal, columns, said, bad, answer};
 ghost use Rattle.octets.specs.Stored.{Stored};
 use header::Header;
 use hex::decode_by;
@@ -12,7 +12,7 @@ use octets::Outcome;
 use octets::copy;
 
 // Room for the bytes that the digits of a line stand for.
-pub const FRAME_MOST: usize = 512;
+pub(crate) const FRAME_MOST: usize = 512;
 
 // Stores a number below 100 in decimal and a line feed.
 fn put_length(k: usize, out: &mut [u8], at: usize) -> usize
@@ -33,11 +33,11 @@ fn put_length(k: usize, out: &mut [u8], at: usize) -> usize
 }
 
 // Stores what stands behind a label: an answer's number and length.
-fn put_told(o: Outcome, out: &mut [u8], at: usize) -> usize
+fn put_columns(o: Outcome, out: &mut [u8], at: usize) -> usize
     requires { ⌜ o .number ≤ 5 ⌝ }
     requires { ⌜ o .length ≤ 37 ⌝ }
     requires { ⌜ at + 6 ≤ length (now out) ⌝ }
-    ensures { λ r. ⌜ Stored (now (out .entry)) at (told o) (now (out .exit)) r ⌝ }
+    ensures { λ r. ⌜ Stored (now (out .entry)) at (columns o) (now (out .exit)) r ⌝ }
     ensures { λ r. ⌜ r ≤ at + 6 ⌝ }
 {
     out[at] = b'\t';
@@ -59,7 +59,7 @@ fn put_bad(out: &mut [u8], at: usize) -> usize
 }
 
 // Stores the answer to a line that is not bad, from its label and its bytes. Asks for room: the label and six bytes.
-pub fn put_good(label: &[u8], frame: &[u8], out: &mut [u8], at: usize) -> usize
+pub(crate) fn put_good(label: &[u8], frame: &[u8], out: &mut [u8], at: usize) -> usize
     requires { ⌜ at + length (now label) + 6 ≤ length (now out) ⌝ }
     ensures { λ r. ⌜ Stored (now (out .entry)) at
         (now (label .entry) ++ said (now (frame .entry))) (now (out .exit)) r ⌝ }
@@ -68,14 +68,14 @@ pub fn put_good(label: &[u8], frame: &[u8], out: &mut [u8], at: usize) -> usize
     let read = Header::read(frame);
     let outcome = read.outcome();
     let next = copy(label, out, at);
-    put_told(outcome, out, next)
+    put_columns(outcome, out, next)
 }
 
 // Stores the answer to a line, given without its line feed. Asks for the values of hex digits, and for room: the line
 // and five bytes.
-pub fn put_answer(line: &[u8], values: &[u16; 256], out: &mut [u8], at: usize) -> usize
+pub(crate) fn put_answer(line: &[u8], values: &[u16; 256], out: &mut [u8], at: usize) -> usize
     requires { ⌜ at + length (now line) + 5 ≤ length (now out) ⌝ }
-    requires { ⌜ Values (now values) ⌝ }
+    requires { ⌜ now values ≡ worths 256 ⌝ }
     ensures { λ r. ⌜ Stored (now (out .entry)) at (answer (now (line .entry))) (now (out .exit)) r ⌝ }
     ensures { λ r. ⌜ r ≤ at + length (now (line .entry)) + 5 ⌝ }
 {

@@ -17,7 +17,7 @@ use Rattle.line_cutter.proofs.Line.{Free, before-free, before-take, before-stop
 use Rattle.hex.specs.Hex.{isDigit, odd, foreign, unhex, decoded, digit}
 use Rattle.hex.proofs.Hex.{foreign-no, unhex-length, unhex-whole, whole-good}
 use Rattle.header.specs.Read.{readHeader, readOutcome}
-use Rattle.line_answer.specs.Answer.{tabs, told, bad, answer}
+use Rattle.lines.specs.Answer.{tabs, columns, bad, answer}
 
 tab-foreign : isDigit 9 ≡ false
 unfolding digit
@@ -53,13 +53,13 @@ later false e = e
 module _ (s t : List ℕ) (f : Free 9 s) where
   parted : answer (s ++ (9 ∷ t)) ≡
       first ((ltb lineMost (length (s ++ (9 ∷ t))), bad) ∷ (not (eqb (suc (tabs t)) 1), bad) ∷ (odd t, bad) ∷ (foreign t, bad) ∷ [])
-      (s ++ told (readOutcome (readHeader (unhex t))))
+      (s ++ columns (readOutcome (readHeader (unhex t))))
   unfolding answer
   parted = rw (before-free 9 s t f, tabs-at s t f, drop-append-add s (9 ∷ t) 1)
 
   -- whole digits and no more than 1,024 bytes: the label, and what the header says
   pub answer-good : length (s ++ (9 ∷ t)) ≤ lineMost → 2 * length (unhex t) ≡ length t →
-      answer (s ++ (9 ∷ t)) ≡ s ++ told (readOutcome (readHeader (unhex t)))
+      answer (s ++ (9 ∷ t)) ≡ s ++ columns (readOutcome (readHeader (unhex t)))
   answer-good h w =
       let g = whole-good t w in
       parted ∙ simp (le-ltb _ _ h, tabs-free t (foreign-free 9 t tab-foreign (g .1)), g .0, g .1)
@@ -109,12 +109,12 @@ module _ (l : List ℕ) (tab n : ℕ) (e : tab ≡ length (before 9 9 l)) (short
   all-decoded : decoded l (tab + 1) 512 ≡ unhex (drop (tab + 1) l)
   all-decoded = take-all 512 (unhex (drop (tab + 1) l)) (omega (arith, unhex-length (drop (tab + 1) l), length-drop (tab + 1) l))
 
-  pub line-good : tab + 1 + 2 * n ≡ length l → take tab l ++ told (readOutcome (readHeader (decoded l (tab + 1) 512))) ≡ answer l
+  pub line-good : tab + 1 + 2 * n ≡ length l → take tab l ++ columns (readOutcome (readHeader (decoded l (tab + 1) 512))) ≡ answer l
   line-good h =
       let w : 2 * length (unhex (drop (tab + 1) l)) ≡ length (drop (tab + 1) l) =
       omega (arith, ap length all-decoded, length-drop (tab + 1) l) in
       let k : length (take tab l ++ (9 ∷ drop (tab + 1) l)) ≤ lineMost = rw (sym line-tab) short in
-      ap (λ (u : List ℕ). take tab l ++ told (readOutcome (readHeader u))) all-decoded
+      ap (λ (u : List ℕ). take tab l ++ columns (readOutcome (readHeader u))) all-decoded
       ∙ sym (answer-good (take tab l) (drop (tab + 1) l) label-free k w)
       ∙ ap answer (sym line-tab)
 

@@ -25,12 +25,12 @@ abbrev pub decimal : ℕ → List ℕ
 decimal n = cond (ltb n 10) (digitOf n ∷ []) (digitOf (n / 10) ∷ digitOf (n % 10) ∷ [])
 
 -- behind a label: tab, number, tab, length, line feed
-unfoldable pub told : Outcome → List ℕ
-told o = tabByte ∷ digitOf (o .number) ∷ tabByte ∷ (decimal (o .length) ++ (lineFeed ∷ []))
+unfoldable pub columns : Outcome → List ℕ
+columns o = tabByte ∷ digitOf (o .number) ∷ tabByte ∷ (decimal (o .length) ++ (lineFeed ∷ []))
 
 -- what the header of a frame says
 abbrev pub said : List ℕ → List ℕ
-said frame = told (readOutcome (readHeader frame))
+said frame = columns (readOutcome (readHeader frame))
 
 -- `bad` and a line feed
 unfoldable pub bad : List ℕ

@@ -1,12 +1,12 @@
--- `line_answer::put_bad` meets its contract: four bytes by hand.
+-- `lines::one_line::put_bad` meets its contract: four bytes by hand.
 -- Assumes nothing.
 use native.Mathlib.Omega.{arith}
 use borrow.Author.Needs.{needs}
 use lib.ListN.{length-set}
-use Rattle.line_answer.specs.Answer.{bad}
+use Rattle.lines.specs.Answer.{bad}
 use Rattle.octets.proofs.Stored.{four}
-use Rattle.line_answer.proofs.put_bad.Statement.{statement}
-use Rattle.line_answer.proofs.put_bad.Tie as tie
+use Rattle.lines.proofs.one_line.put_bad.Statement.{statement}
+use Rattle.lines.proofs.one_line.put_bad.Tie as tie
 
 pub put-bad-spec : {M : Type 1} → statement M
 unfolding bad

@@ -1,12 +1,12 @@
--- `line_answer::put_length` meets its contract: one digit or two, as the definition's test says, and a line feed.
+-- `lines::one_line::put_length` meets its contract: one digit or two, as the definition's test says, and a line feed.
 -- Assumes nothing.
 use native.Mathlib.Omega.{arith}
 use borrow.Author.Needs.{needs}
 use borrow.Author.Tests.{lt-ltb, le-ltb}
 use lib.ListN.{length-set}
 use Rattle.octets.proofs.Stored.{two, three}
-use Rattle.line_answer.proofs.put_length.Statement.{statement}
-use Rattle.line_answer.proofs.put_length.Tie as tie
+use Rattle.lines.proofs.one_line.put_length.Statement.{statement}
+use Rattle.lines.proofs.one_line.put_length.Tie as tie
 
 one-digit : tie.Need-returns
 one-digit c = (simp (lt-ltb _ _ (c .if1 .taken)) (two _ _ _ _), omega arith)
