@@ -2,3 +2,4 @@ pub mod Fields
 pub mod Again
 pub mod Back
 pub mod Trip
+pub mod Records

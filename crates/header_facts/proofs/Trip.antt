@@ -150,6 +150,9 @@ module _ (s : List ℕ) (b : Bytes s) (p : Passed s (number s 0 2)) where
   facts : PartFacts (header .«auxiliary_security_header»)
   facts = part-facts (bit word 3) s (sourceEnd word) b (part-whole s p)
 
+  pub level-fits : optionalTooLarge (header .«auxiliary_security_header») ≡ false
+  level-fits = facts .level
+
   small : Small header
   small =
       let destination = address-small (ownTo s p) (pan 0) (modeIn (bits word 10 2)) s (start (bit word 8)) b (omega arith)

@@ -1,14 +1,15 @@
 -- Demand 3 for a header, point by point: read, written again with the counter that was read, and read once more.
 use Rattle.octets.specs.Words.{ℕ, _+_, _≤_, false, List, _++_, _≡_, length, take, drop}
-use Rattle.octets.specs.{Buffer.laid, Little.number}
+use Rattle.octets.specs.{declared.Outcome.Outcome, Outcome.refused, Buffer.laid, Little.number}
 use Rattle.header_bytes.specs.{Cleared.headerCleared, Rewriting.sourceless}
 use Rattle.address.specs.declared.{OptionalAddress.OptionalAddress}
 use Rattle.security.specs.declared.{OptionalCounter.OptionalCounter, OptionalSecurityHeader.OptionalSecurityHeader}
 use Rattle.security.specs.Optional.{counterOf, counterRead}
-use Rattle.header.specs.declared.{Header.Header}
+use Rattle.header.specs.declared.{Header.Header, HeaderRead.HeaderRead}
 use Rattle.header.specs.Record.{headerOf, headerLength}
-use Rattle.header.specs.{Read.readHeader, Write.writeHeader, Write.writtenControl, Write.headerBytes}
-use Rattle.header.specs.declared.HeaderRead.the-variants.{Read}
+use Rattle.header.specs.{Read.readNumber, Read.readHeader}
+use Rattle.header.specs.{Write.writeHeader, Write.writtenOutcome, Write.writtenControl, Write.headerBytes}
+use Rattle.header.specs.declared.HeaderRead.the-variants.{Read, Refused}
 use Rattle.header.specs.declared.HeaderWritten.the-variants.{Written}
 
 -- the record with the two flags that writing loses, `seq_no_suppress` and `ie_present`, false, and with the source and
@@ -25,6 +26,11 @@ ownCounter h = counterRead (h .«auxiliary_security_header»)
 
 abbrev pub rewritten : Header → List ℕ
 rewritten h = headerBytes h (counterOf (ownCounter h))
+
+-- what reading and then writing so into room bytes answers
+abbrev pub writtenAfter : HeaderRead → ℕ → Outcome
+writtenAfter (Refused r) room = refused (readNumber r)
+writtenAfter (Read h n) room = writtenOutcome (writeHeader h (ownCounter h) room)
 
 -- what holds of a header h of n bytes that was read from s
 pub record Rewritten (s : List ℕ) (h : Header) (n : ℕ) : Type 0 where

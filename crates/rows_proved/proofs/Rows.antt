@@ -7,13 +7,12 @@ use Rattle.octets.specs.Little.{join, split, number}
 use Rattle.frame_control.specs.Types.{typeOf}
 use Rattle.frame_control.specs.Versions.{versionOf}
 use Rattle.frame_control.specs.Modes.{modeOf}
-use Rattle.frame_control.specs.Control.{controlIn, controlBits}
+use Rattle.frame_control.specs.Control.{controlBits}
 use Rattle.address.specs.Layout.{addressIn, addressBytes}
 use Rattle.security_control.specs.Control.{keyModeOf}
 use Rattle.key_identifier.specs.Key.{keyIn, keyBytes}
 use Rattle.security.specs.Security.{securityIn, securityBytes}
-use Rattle.security.specs.Answer.{readSecurity}
-use Rattle.header.specs.Read.{securityPart, readRest, readFields, readHeader}
+use Rattle.header.specs.Read.{readBy}
 use Rattle.header.specs.Write.{writeHeader, headerBytes}
 use Rattle.seven_places.specs.Seven.{seven, some}
 use Rattle.superframe.specs.Superframe.{superframeIn, readSuperframe, superframeBytes, superframeTooLarge}
@@ -25,8 +24,8 @@ use Rattle.beacon.specs.Beacon.{beaconIn, beaconLengthIn, readBeacon, beaconByt
 use Rattle.rows_proved.specs.Rows.{Asked, slots?, Seen, seen, p13, p13Longer, rows}
 
 pub as-listed : map (λ (row : Asked × Seen). seen (row .0)) rows ≡ map (λ (row : Asked × Seen). row .1) rows
-unfolding join split number typeOf versionOf modeOf controlIn controlBits addressIn addressBytes keyModeOf keyIn keyBytes securityIn
-    securityBytes readSecurity securityPart readRest readFields readHeader writeHeader headerBytes readBeacon beaconIn beaconLengthIn
+unfolding join split number typeOf versionOf modeOf controlBits addressIn addressBytes keyModeOf keyIn keyBytes securityIn
+    securityBytes readBy writeHeader headerBytes readBeacon beaconIn beaconLengthIn
     beaconBytes beaconTooLarge writeBeacon readSuperframe superframeIn superframeBytes superframeTooLarge readTimeSlots timeSlotsIn
     timeSlotsBytes timeSlotsTooLarge writeTimeSlots listBytes directionsOf slotAt descriptorIn descriptorBytes descriptorTooLarge
     readPending pendingIn pendingBytes pendingTooLarge seven some flatMap

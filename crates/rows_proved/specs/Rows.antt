@@ -12,7 +12,7 @@ use Rattle.identifiers.specs.{PanId.pan, ShortAddress.short}
 use Rattle.address.specs.declared.{OptionalAddress.OptionalAddress}
 use Rattle.address.specs.declared.Address.the-variants.{Short}
 use Rattle.address.specs.Address.{modeOf}
-use Rattle.security_control.specs.Control.{controlOf}
+use Rattle.security_control.specs.Control.{securityControlOf}
 use Rattle.security_control.specs.declared.KeyIdentifierMode.the-variants.{KeyIndex}
 use Rattle.security.specs.declared.{OptionalSecurityHeader.OptionalSecurityHeader}
 use Rattle.security.specs.{Optional.isPresent, Optional.counterRead, Security.securityOf}
@@ -21,7 +21,7 @@ use Rattle.header.specs.Record.{headerOf, octetSize}
 use Rattle.header.specs.Read.{readHeader, readNumber}
 use Rattle.header.specs.Write.{writeHeader, writtenOutcome}
 use Rattle.header.specs.declared.HeaderRead.the-variants.{Read, Refused}
-use Rattle.header_facts.specs.RoundTrip.{rewritten}
+use Rattle.header_facts.specs.Rewritten.{ownCounter, rewritten}
 use Rattle.superframe.specs.declared.{SuperframeSpecification.SuperframeSpecification}
 use Rattle.superframe.specs.declared.BeaconOrder.the-variants.{BeaconOrder}
 use Rattle.superframe.specs.declared.SuperframeOrder.the-variants.{SuperframeOrder}
@@ -58,7 +58,7 @@ writtenAs o bytes = cond (eqb (o .number) 0) (written (o .length) bytes) (refuse
 
 abbrev headerAgain : Header → ℕ → Written
 headerAgain h n =
-    writtenAs (writtenOutcome (writeHeader h (counterRead (h .«auxiliary_security_header»)) n)) (rewritten h)
+    writtenAs (writtenOutcome (writeHeader h (ownCounter h) n)) (rewritten h)
 
 abbrev beaconAgain : Beacon → ℕ → Written
 beaconAgain x n = writtenAs (valueOutcome (writeBeacon x (replicate n 0) 0)) (beaconBytes x)
@@ -134,7 +134,7 @@ unsecured = OptionalSecurityHeader.Absent
 
 -- level 5, counter 1, a key's index 7 and no source of it
 abbrev pub levelFive : OptionalSecurityHeader
-levelFive = OptionalSecurityHeader.Present (securityOf (controlOf 5 KeyIndex) 1 (keyOf OptionalKeySource.Absent 7))
+levelFive = OptionalSecurityHeader.Present (securityOf (securityControlOf 5 KeyIndex) 1 (keyOf OptionalKeySource.Absent 7))
 
 -- orders 6 and 4, slot 15, coordinator, association permit
 abbrev pub ordersSixFour : SuperframeSpecification
