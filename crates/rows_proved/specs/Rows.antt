@@ -15,7 +15,7 @@ use Rattle.address.specs.Address.{modeOf}
 use Rattle.security_control.specs.Control.{securityControlOf}
 use Rattle.security_control.specs.declared.KeyIdentifierMode.the-variants.{KeyIndex}
 use Rattle.security.specs.declared.{OptionalSecurityHeader.OptionalSecurityHeader}
-use Rattle.security.specs.{Optional.isPresent, Optional.counterRead, Security.securityOf}
+use Rattle.security.specs.{Optional.isPresent, Security.securityOf}
 use Rattle.header.specs.declared.{Header.Header, HeaderRead.HeaderRead}
 use Rattle.header.specs.Record.{headerOf, octetSize}
 use Rattle.header.specs.Read.{readHeader, readNumber}
