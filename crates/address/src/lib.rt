@@ -102,7 +102,7 @@ fn pan_octets(own: bool) -> usize
 }
 
 // How many bytes an address of a mode takes, with its own PAN id or without.
-pub fn mode_octets(mode: AddressMode, own: bool) -> usize
+fn mode_octets(mode: AddressMode, own: bool) -> usize
     ensures { λ r. ⌜ r ≡ modeLength own mode ⌝ }
     ensures { λ r. ⌜ r ≤ 10 ⌝ }
 {
