@@ -1,14 +1,15 @@
 -- Demand 3 for the beacon and each of its parts, from the bytes and from the record; for the beacon with every byte of a buffer, and its
 -- length.
 -- Assumes nothing.
-use Prim.Native.Nat.{ℕ, suc, _+_, _-_, _≤_, _<_}
+use Prim.Native.Nat.{ℕ, _+_, _≤_}
 use native.Mathlib.Omega.{arith}
-use mathlib.Core.List.{List, [], _∷_, _++_}
-use mathlib.Core.Path.{_≡_, refl, sym, ap, _∙_}
+use mathlib.Core.List.{List, _++_}
+use mathlib.Core.Path.{_≡_, sym, ap, _∙_}
 use lib.ListN.{length, set, take, drop}
 use lib.Seq.{sets, set-comm, set-set, length-take-le}
 use Rattle.octets.specs.Buffer.{laid}
 use Rattle.octets.specs.Little.{Bytes}
+use Rattle.octets.proofs.Buffer.{laid-length, laid-again}
 use Rattle.octets.proofs.Buffer.{laid-length}
 use Rattle.octets.specs.declared.ValueWritten.the-variants.{Written}
 use Rattle.time_slots.specs.TimeSlots.{slotsLength, slotCountIn}
@@ -64,21 +65,6 @@ beacon-occupies s at x n e =
     let count : beaconLengthIn s at ≡ n = ap (λ (r : BeaconRead). r .outcome .length) (sym (read .0) ∙ e) in
     let slots : slotsLength (slotCountIn s (at + 2)) ≤ 22 = few-length (slotCountIn s (at + 2)) (omega arith) in
     rw (sym count) (omega arith, omega arith, omega (arith, all-found s at (read .1)))
-
--- storing the same bytes again changes nothing
-set-before : (l b : List ℕ) (i j x : ℕ) → i < j → set (sets l j b) i x ≡ sets (set l i x) j b
-set-before l [] i j x h = refl
-set-before l (y ∷ b) i j x h =
-    set-before (set l j y) b i (suc j) x (omega arith)
-    ∙ ap (λ (l : List ℕ). sets l (suc j) b) (set-comm l j i y x (λ e. omega arith))
-
-laid-again : (l : List ℕ) (at : ℕ) (b : List ℕ) → laid (laid l at b) at b ≡ laid l at b
-unfolding laid
-laid-again l at [] = refl
-laid-again l at (x ∷ b) =
-    ap (λ (l : List ℕ). sets l (suc at) b)
-    (set-before (set l at x) b at (suc at) x (omega arith) ∙ ap (λ (l : List ℕ). sets l (suc at) b) (set-set l at x x))
-    ∙ laid-again (set l at x) (suc at) b
 
 -- an accepted writing stores the bytes
 after-stored : (x : Beacon) (n : ℕ) (out : List ℕ) (to : ℕ) → writeBeacon x out to ≡ Written n →
