@@ -142,7 +142,8 @@ module _ (s : List ℕ) (b : Bytes s) (p : Passed s (number s 0 2)) where
   source-written : addressBytes own-from (header .source) ≡ take from (drop (3 + to) s)
   source-written =
       let size = source-size s p in
-      address-again own-from (sharedPan (destinationIn s w)) (modeIn (bits w 14 2)) s (destinationEnd w) b (omega (arith, p .addresses, size))
+      address-again own-from (sharedPan (destinationIn s w)) (modeIn (bits w 14 2)) s (destinationEnd w) b
+      (omega (arith, p .addresses, size))
       ∙ ap (λ (n : ℕ). take n (drop (3 + to) s)) size
 
   addresses-written : addressesBytes header ≡ take to (drop 3 s) ++ take from (drop (3 + to) s)

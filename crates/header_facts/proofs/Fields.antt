@@ -11,7 +11,8 @@ use lib.ListN.{length}
 use Rattle.octets.specs.Bits.{bits, bit}
 use Rattle.octets.specs.Little.{number}
 use Rattle.octets.proofs.Cases.{cases, holds?}
-use Rattle.header_bytes.specs.Layout.{start, ownDestination, ownSource, panSize, addressSize, securitySize, destinationEnd, sourceEnd, headerEnd}
+use Rattle.header_bytes.specs.Layout.{start, ownDestination, ownSource, panSize, addressSize, securitySize}
+use Rattle.header_bytes.specs.Layout.{destinationEnd, sourceEnd, headerEnd}
 use Rattle.header_bytes.proofs.Passed.{Passed}
 use Rattle.frame_control.specs.declared.AddressMode.{AddressMode}
 use Rattle.frame_control.specs.declared.AddressMode.the-variants as Mode

@@ -38,7 +38,8 @@ module _ (s : List ℕ) (b : Bytes s) (p : Passed s (number s 0 2)) where
   abbrev header : Header
   header = headerIn s w
 
-  tests : (room : ℕ) → writtenOutcome (writeHeader header (ownCounter header) room) ≡ answered (roomTests w (headerEnd s w) room) (headerEnd s w)
+  tests : (room : ℕ) →
+      writtenOutcome (writeHeader header (ownCounter header) room) ≡ answered (roomTests w (headerEnd s w) room) (headerEnd s w)
   unfolding writeHeader
   tests room =
       let level = level-fits s b p in

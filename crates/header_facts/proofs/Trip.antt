@@ -102,7 +102,8 @@ module _ (s : List ℕ) (p : Passed s (number s 0 2)) (more : List ℕ) where
 
   source-more : sourceIn (s ++ more) w ≡ sourceIn s w
   source-more =
-      ap (λ (d : OptionalAddress). addressIn (ownFrom s p) (sharedPan d) (modeIn (bits w 14 2)) (s ++ more) (destinationEnd w)) destination-more
+      ap (λ (d : OptionalAddress). addressIn (ownFrom s p) (sharedPan d) (modeIn (bits w 14 2)) (s ++ more) (destinationEnd w))
+      destination-more
       ∙ address-more (ownFrom s p) (sharedPan (destinationIn s w)) (modeIn (bits w 14 2)) s more (destinationEnd w)
       (omega (arith, p .addresses, source-size s p))
 

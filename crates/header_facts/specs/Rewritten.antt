@@ -38,7 +38,8 @@ pub record Rewritten (s : List ℕ) (h : Header) (n : ℕ) : Type 0 where
   pub within : n ≤ length s
   pub occupied : headerLength h ≡ n
   -- with room, writing it again is accepted, unless it is compressed without a source
-  pub accepted : (room : ℕ) → sourceless (number s 0 2) ≡ false → n ≤ room → writeHeader h (ownCounter h) room ≡ Written n
+  pub accepted : (room : ℕ) → sourceless (number s 0 2) ≡ false → n ≤ room →
+      writeHeader h (ownCounter h) room ≡ Written n
   -- it gives the bytes that were read, but for the listed bits cleared, and as many
   pub written : rewritten h ≡ headerCleared s
   pub long : length (rewritten h) ≡ n

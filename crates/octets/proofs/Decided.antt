@@ -1,5 +1,5 @@
--- That two answers allowed by a contract coincide (document 01, "What each contract has to decide"), for each shape that the contract of a public
--- function has.
+-- That two answers allowed by a contract coincide (document 01, "What each contract has to decide"), for each shape that the contract of
+-- a public function has.
 -- Assumes nothing.
 use Prim.Native.Nat.{ℕ, _+_}
 use mathlib.Core.List.{List}

@@ -134,7 +134,8 @@ unsecured = OptionalSecurityHeader.Absent
 
 -- level 5, counter 1, a key's index 7 and no source of it
 abbrev pub levelFive : OptionalSecurityHeader
-levelFive = OptionalSecurityHeader.Present (securityOf (securityControlOf 5 KeyIndex) 1 (keyOf OptionalKeySource.Absent 7))
+levelFive =
+    OptionalSecurityHeader.Present (securityOf (securityControlOf 5 KeyIndex) 1 (keyOf OptionalKeySource.Absent 7))
 
 -- orders 6 and 4, slot 15, coordinator, association permit
 abbrev pub ordersSixFour : SuperframeSpecification

@@ -46,7 +46,8 @@ neither (suc zero) m h two three six seven = (λ e. six (omega arith), λ e. sev
 neither (suc (suc c)) m h two three six seven = absurd (omega arith)
 
 -- no address, no PAN id
-without : (compressed : Bool) (mode : ℕ) → mode < 4 → (mode ≡ 2 → ⊥) → (mode ≡ 3 → ⊥) → 0 ≡ panSize (not compressed && ltb 1 mode) + addressSize mode
+without : (compressed : Bool) (mode : ℕ) → mode < 4 → (mode ≡ 2 → ⊥) → (mode ≡ 3 → ⊥) →
+    0 ≡ panSize (not compressed && ltb 1 mode) + addressSize mode
 without true mode h two three = simp (ne-eqb _ _ two, ne-eqb _ _ three)
 without false mode h two three =
     let small : mode ≤ 1 = omega (arith, two, three) in

@@ -1,5 +1,5 @@
--- `header_bytes::measure_header` meets its contract: its tests are the definition's, in their order. Behind each test that does not hold, the
--- tests that are left answer what all of them answer.
+-- `header_bytes::measure_header` meets its contract: its tests are the definition's, in their order. Behind each test that does not hold,
+-- the tests that are left answer what all of them answer.
 -- Assumes nothing.
 use Prim.Native.Nat.{ℕ}
 use mathlib.Core.Bool.{true, false}
