@@ -34,6 +34,7 @@ pub fn measure_beacon(s: &[u8], at: usize) -> Outcome
         return Outcome::refused(1);
     }
     let slots = 2 + time_slots_length(s, at + 2);
+    // Without its pending header a beacon is refused at once.
     if there < slots + 1 {
         return Outcome::refused(1);
     }
