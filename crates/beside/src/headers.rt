@@ -11,10 +11,10 @@ use crate::text::put_flag;
 use crate::text::put_reading;
 use crate::text::put_rewriting;
 use crate::text::put_u8;
+use address::OptionalAddress;
+use frame_control::FrameControl;
 use frame_control::FrameType;
-use frame_control::FrameTypeRead;
 use frame_control::FrameVersion;
-use frame_control::FrameVersionRead;
 use header::Header;
 use header::HeaderRead;
 use octets::Outcome;
@@ -52,41 +52,35 @@ fn dump_header(header: Header, out: &mut [u8], at: usize) -> usize {
     put_u8(0, out, next)
 }
 
-// The type of a number, Beacon where it is none.
-fn build_type(number: u8) -> FrameType {
-    match FrameType::from_bits(number) {
-        FrameTypeRead::Read(frame_type) => frame_type,
-        FrameTypeRead::Refused => FrameType::Beacon,
-    }
-}
-
-// The version of a number, that of 2003 where it is none.
-fn build_version(number: u8) -> FrameVersion {
-    match FrameVersion::from_bits(number) {
-        FrameVersionRead::Read(version) => version,
-        FrameVersionRead::Refused => FrameVersion::Ieee802154_2003,
-    }
-}
-
-pub(crate) fn build_header(s: &[u8]) -> Header {
-    let frame_type = build_type(u8_at(s, 0));
-    let version = build_version(u8_at(s, 6));
-    let destination = build_address(part(s, DESTINATION));
-    let source = build_address(part(s, SOURCE));
-    let auxiliary_security_header = build_optional(part(s, SECURED));
-    Header {
-        frame_type,
+// A type or a version that is not known counts as 0.
+fn build_control(s: &[u8], destination: OptionalAddress, source: OptionalAddress) -> FrameControl {
+    let frame_type = FrameType::from_bits(u8_at(s, 0));
+    let version = FrameVersion::from_bits(u8_at(s, 6));
+    FrameControl {
+        frame_type: frame_type.known(),
+        security: flag_at(s, SECURED),
         frame_pending: flag_at(s, 1),
         ack_request: flag_at(s, 2),
         pan_id_compress: flag_at(s, 3),
         seq_no_suppress: flag_at(s, 4),
         ie_present: flag_at(s, 5),
-        version,
-        seq: u8_at(s, 7),
+        destination: destination.mode(),
+        version: version.known(),
+        source: source.mode(),
+    }
+}
+
+pub(crate) fn build_header(s: &[u8]) -> Header {
+    let destination = build_address(part(s, DESTINATION));
+    let source = build_address(part(s, SOURCE));
+    let control = build_control(s, destination, source);
+    Header::of(
+        control,
+        u8_at(s, 7),
         destination,
         source,
-        auxiliary_security_header,
-    }
+        build_optional(part(s, SECURED)),
+    )
 }
 
 pub(crate) fn read_header(s: &[u8], ask: Ask, room: &mut [u8], out: &mut [u8], at: usize) -> usize {

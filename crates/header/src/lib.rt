@@ -2,7 +2,7 @@
 ghost use Rattle.octets.specs.Words.{_+_, _-_, _≤_, min, _≡_, length, drop};
 ghost use Rattle.octets.specs.Buffer.{laid, after};
 ghost use Rattle.security.specs.Optional.{counterOf};
-ghost use Rattle.header.specs.Record.{secured, ownsDestination, ownsSource};
+ghost use Rattle.header.specs.Record.{headerOf, secured, ownsDestination, ownsSource};
 ghost use Rattle.header.specs.Record.{addressesEnd, headerLength, octetSize};
 ghost use Rattle.header.specs.Read.{headerIn, readNumber, refusalOf, readHeader, readOutcome};
 ghost use Rattle.header.specs.Write.{bothPresent, lacksAddress, lacksCounter, writeHeader, writtenOutcome};
@@ -135,21 +135,13 @@ fn header_in(s: &[u8], w: u16) -> Header
         source_end(word),
         control.security,
     );
-    let frame_type = control.frame_type;
-    let version = control.version;
-    Header {
-        frame_type,
-        frame_pending: control.frame_pending,
-        ack_request: control.ack_request,
-        pan_id_compress: control.pan_id_compress,
-        seq_no_suppress: control.seq_no_suppress,
-        ie_present: control.ie_present,
-        version,
-        seq: u8_at(s, 2),
+    Header::of(
+        control,
+        u8_at(s, 2),
         destination,
         source,
         auxiliary_security_header,
-    }
+    )
 }
 
 fn both_present(destination: OptionalAddress, source: OptionalAddress) -> bool
@@ -165,6 +157,34 @@ fn both_present(destination: OptionalAddress, source: OptionalAddress) -> bool
 }
 
 impl Header {
+    // The record of a frame control's type, version and flags, a sequence number, two addresses and a security header. The
+    // frame control's security bit and modes are not looked at: the parts tell them.
+    pub fn of(
+        control: FrameControl,
+        seq: u8,
+        destination: OptionalAddress,
+        source: OptionalAddress,
+        auxiliary_security_header: OptionalSecurityHeader,
+    ) -> Self
+        ensures { λ r. ⌜ r ≡ headerOf control seq destination source «auxiliary_security_header» ⌝ }
+    {
+        let frame_type = control.frame_type;
+        let version = control.version;
+        Header {
+            frame_type,
+            frame_pending: control.frame_pending,
+            ack_request: control.ack_request,
+            pan_id_compress: control.pan_id_compress,
+            seq_no_suppress: control.seq_no_suppress,
+            ie_present: control.ie_present,
+            version,
+            seq,
+            destination,
+            source,
+            auxiliary_security_header,
+        }
+    }
+
     // Reads the header at the beginning of a slice.
     pub fn read(s: &[u8]) -> HeaderRead
         ensures { λ r. ⌜ r ≡ readHeader (now (s .entry)) ⌝ }

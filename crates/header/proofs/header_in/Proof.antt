@@ -14,7 +14,8 @@ use Rattle.header.proofs.header_in.Tie as tie
 
 returns : tie.Need-returns
 returns c =
-    let part = c .before in
+    let seq = c .before in
+    let part = seq .before in
     let place = part .before in
     let second = place .before in
     let owner = second .before in
@@ -33,10 +34,11 @@ returns c =
     second .address-at2 .ensures
     ∙ (λ i. addressIn (owner .own-source .ensures i) (pan-id i) (is i .source) s (behind .destination-end .ensures .0 i)) in
     let security = part .at .ensures ∙ (λ i. optionalIn (is i .security) s (place .source-end .ensures .0 i)) in
-    λ i. headerOf (is i) (c .u8-at .ensures i) (destination i) (source i) (security i)
+    c .of2 .ensures ∙ (λ i. headerOf (is i) (seq .u8-at .ensures i) (destination i) (source i) (security i))
 
 pub header-in-spec : {M : Type 1} → statement M
 header-in-spec =
     tie.close
     (tie.spec (λ c κs. search needs) (λ c κs. search needs) (λ c κs. search needs) (λ c κs. search needs) (λ c κs. search needs)
-    (λ c κs. search needs) (λ c κs. search needs) (λ c κs. search needs) (λ c κs. search needs) (λ c κs. search needs) returns)
+    (λ c κs. search needs) (λ c κs. search needs) (λ c κs. search needs) (λ c κs. search needs) (λ c κs. search needs)
+    (λ c κs. search needs) returns)
