@@ -5,8 +5,8 @@ use Prim.Native.Nat.{ℕ, _+_, _≤_}
 use native.Mathlib.Omega.{arith}
 use mathlib.Core.List.{List, _++_}
 use mathlib.Core.Path.{_≡_, sym, ap, _∙_}
-use lib.ListN.{length, set, take, drop}
-use lib.Seq.{sets, set-comm, set-set, length-take-le}
+use lib.ListN.{length, take, drop}
+use lib.Seq.{length-take-le}
 use Rattle.octets.specs.Buffer.{laid}
 use Rattle.octets.specs.Little.{Bytes}
 use Rattle.octets.proofs.Buffer.{laid-length, laid-again}

@@ -1,6 +1,6 @@
 -- How long the parts of a header are: an address at most 10 bytes, a security part 5 to 14, the whole 3 to 37.
 -- Assumes nothing.
-use Prim.Native.Nat.{ℕ, _+_, _≤_, _<_}
+use Prim.Native.Nat.{ℕ, _≤_, _<_}
 use native.Mathlib.Omega.{arith}
 use mathlib.Core.Bool.{Bool, true, false}
 use mathlib.Core.List.{List}

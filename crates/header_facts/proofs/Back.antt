@@ -35,7 +35,7 @@ use Rattle.header.specs.declared.Header.{Header}
 use Rattle.header.specs.declared.HeaderRead.the-variants.{Read}
 use Rattle.header.specs.declared.HeaderWritten.the-variants.{Written}
 use Rattle.header.specs.Record.{headerOf, secured, ownsDestination, ownsSource, addressesEnd, headerLength}
-use Rattle.header.specs.Read.{destinationIn, sourceIn, headerIn, readBy, readHeader}
+use Rattle.header.specs.Read.{destinationIn, sourceIn, readBy, readHeader}
 use Rattle.header.specs.Write.{bothPresent, writeHeader, writtenControl, fixedBytes, headerBytes}
 use Rattle.header.proofs.Writing.{fixed-length, header-length, written-passes}
 use Rattle.header.proofs.Apart.{together}

@@ -36,15 +36,15 @@ use Rattle.security.proofs.Security.{security-small, counter-small, security-to
 use Rattle.header.specs.declared.Header.{Header}
 use Rattle.header.specs.declared.HeaderRead.the-variants.{Read}
 use Rattle.header.specs.declared.HeaderWritten.the-variants.{Written}
-use Rattle.header.specs.Record.{headerOf, ownsSource, addressesEnd, headerLength}
+use Rattle.header.specs.Record.{headerOf, addressesEnd, headerLength}
 use Rattle.header.specs.Read.{destinationIn, sourceIn, headerIn, readBy, readHeader}
 use Rattle.header.specs.Write.{bothPresent, lacksAddress, writeHeader, headerBytes}
 use Rattle.header.proofs.Writing.{header-length}
 use Rattle.header.proofs.Apart.{together, apart}
 use Rattle.header_facts.specs.Rewritten.{quiet, lost, ownCounter, rewritten, Rewritten}
-use Rattle.header_facts.specs.RoundTrip.{headerLeft, RoundTrip}
+use Rattle.header_facts.specs.RoundTrip.{headerAfter, RoundTrip}
 use Rattle.header_facts.specs.Told.{partTold, SmallPart, Small}
-use Rattle.header_facts.proofs.Fields.{ownTo, ownFrom, to-bits, from-bits, owns-from, destination-size, source-size, addresses-end}
+use Rattle.header_facts.proofs.Fields.{ownTo, ownFrom, to-bits, from-bits, owns-from, destination-size, source-size}
 use Rattle.header_facts.proofs.Fields.{part-whole, length-told}
 use Rattle.header_facts.proofs.Again.{header-again}
 use Rattle.header_facts.proofs.Back.{header-back}
@@ -230,7 +230,7 @@ unread s h n more e = let q = apart s h n e in behind s (q .passed) more ∙ (λ
 
 -- an accepted writing stores the bytes
 left-stored : (h : Header) (n : ℕ) (out : List ℕ) (to : ℕ) → writeHeader h (ownCounter h) (length out - to) ≡ Written n →
-    headerLeft h out to ≡ laid out to (rewritten h)
+    headerAfter h out to ≡ laid out to (rewritten h)
 left-stored h n out to e = rw e
 
 -- Demand 3, with every byte of a buffer.
@@ -240,11 +240,11 @@ pub round-trip : (s : List ℕ) (h : Header) (n : ℕ) (out : List ℕ) (to : �
 round-trip s h n out to b e both room =
     let trip = header-rewritten s h n b e in
     let accepted = trip .accepted (length out - to) both (omega arith) in
-    let left : headerLeft h out to ≡ laid out to (rewritten h) = left-stored h n out to accepted in
+    let left : headerAfter h out to ≡ laid out to (rewritten h) = left-stored h n out to accepted in
     let parted = left ∙ trip .buffer out to room in
     let place : length (take to out) ≡ to = length-take-le to out (omega arith) in
-    let same : length (headerLeft h out to) ≡ length out = ap length left ∙ laid-length out to (rewritten h) in
-    let once-more = trip .once-more (length (headerLeft h out to) - to) both (omega (arith, same)) in
+    let same : length (headerAfter h out to) ≡ length out = ap length left ∙ laid-length out to (rewritten h) in
+    let once-more = trip .once-more (length (headerAfter h out to) - to) both (omega (arith, same)) in
     record {
       within = trip .within;
       accepted = accepted;
@@ -254,7 +254,7 @@ round-trip s h n out to b e both room =
           ∙ ap readHeader (drop-at (take to out) (rewritten h ++ drop (to + n) out) to place)
           ∙ trip .again (drop (to + n) out);
       once-more = once-more;
-      settled = left-stored (lost h) n (headerLeft h out to) to once-more
+      settled = left-stored (lost h) n (headerAfter h out to) to once-more
           ∙ (λ i. laid (left i) to (trip .settled i))
           ∙ laid-again out to (rewritten h)
           ∙ sym left;

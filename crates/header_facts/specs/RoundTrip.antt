@@ -9,8 +9,8 @@ use Rattle.header.specs.declared.HeaderWritten.the-variants.{Written}
 use Rattle.header_facts.specs.Rewritten.{lost, ownCounter, rewritten}
 
 -- what writing h at a place with its own counter leaves of a buffer, as the contract says it
-abbrev pub headerLeft : Header → List ℕ → ℕ → List ℕ
-headerLeft h out to = after (writtenOutcome (writeHeader h (ownCounter h) (length out - to))) out to (rewritten h)
+abbrev pub headerAfter : Header → List ℕ → ℕ → List ℕ
+headerAfter h out to = after (writtenOutcome (writeHeader h (ownCounter h) (length out - to))) out to (rewritten h)
 
 -- what holds of a header h of n bytes that was read from s, and of any buffer with room for it at a place
 pub record RoundTrip (s : List ℕ) (h : Header) (n : ℕ) (out : List ℕ) (to : ℕ) : Type 0 where
@@ -20,11 +20,11 @@ pub record RoundTrip (s : List ℕ) (h : Header) (n : ℕ) (out : List ℕ) (to 
   pub accepted : writeHeader h (ownCounter h) (length out - to) ≡ Written n
   pub long : length (headerCleared s) ≡ n
   -- the buffer then holds the bytes that were read, but for the listed bits cleared; earlier and later bytes stay
-  pub stored : headerLeft h out to ≡ take to out ++ (headerCleared s ++ drop (to + n) out)
+  pub stored : headerAfter h out to ≡ take to out ++ (headerCleared s ++ drop (to + n) out)
   -- reading from that buffer gives the same record but for the two flags, and the same length
-  pub again : readHeader (drop to (headerLeft h out to)) ≡ Read (lost h) n
+  pub again : readHeader (drop to (headerAfter h out to)) ≡ Read (lost h) n
   -- writing that into it once more is accepted and changes nothing
-  pub once-more : writeHeader (lost h) (ownCounter (lost h)) (length (headerLeft h out to) - to) ≡ Written n
-  pub settled : headerLeft (lost h) (headerLeft h out to) to ≡ headerLeft h out to
+  pub once-more : writeHeader (lost h) (ownCounter (lost h)) (length (headerAfter h out to) - to) ≡ Written n
+  pub settled : headerAfter (lost h) (headerAfter h out to) to ≡ headerAfter h out to
   -- bytes added behind the input alter none of this
   pub behind : (more : List ℕ) → readHeader (s ++ more) ≡ Read h n

@@ -1,15 +1,15 @@
 -- Laws of one line at a time: where the bytes before a wanted one end, and what a line is made of.
 -- Assumes nothing.
-use Prim.Native.Nat.{ℕ, suc, _+_, _-_, _≤_, _<_, min}
+use Prim.Native.Nat.{ℕ, suc, _+_, _-_, _≤_, _<_}
 use native.Mathlib.Nat.{add-zero}
 use native.Mathlib.Numerals.{add-one}
 use native.Mathlib.Omega.{arith}
-use mathlib.Core.Bool.{Bool, true, false, _||_, or-true, true≢false}
+use mathlib.Core.Bool.{true, false, _||_, or-true}
 use mathlib.Core.List.{List, [], _∷_, _++_, append-assoc}
 use mathlib.Core.Path.{_≡_, refl, sym, ap, _∙_}
 use borrow.Author.Tests.{ltb-true, ltb-false, lt-ltb, le-ltb, eqb-true, eq-eqb, ne-eqb}
-use lib.Dec.{ltb, eqb}
-use lib.ListN.{length, getD, set, take, drop, length-append, length-take, length-drop, drop-of-length-le}
+use lib.Dec.{eqb}
+use lib.ListN.{length, getD, take, drop, length-append, length-take, length-drop, drop-of-length-le}
 use lib.Seq.{drop-cons, take-all, take-nil, take-at, take-append-add, length-take-le, drop-drop, split-at}
 use Rattle.octets.specs.Buffer.{laid, fitting}
 use Rattle.octets.proofs.Buffer.{laid-none, laid-parts}

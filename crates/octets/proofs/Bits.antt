@@ -5,15 +5,12 @@ use native.Mathlib.Nat.{mul-comm, mod-le, div-one}
 use native.Mathlib.Omega.{arith}
 use mathlib.Core.Bool.{Bool, true, false}
 use mathlib.Core.List.{List, [], _∷_, _++_}
-use mathlib.Core.Logic.{_⊎_, inl, inr}
-use mathlib.Core.Path.{_≡_, refl, sym, ap, _∙_}
-use borrow.Author.Tests.{eqb-true}
+use mathlib.Core.Path.{_≡_, refl, ap, _∙_}
 use lib.Arith.{mod-mul}
 use lib.Dec.{eqb}
 use lib.ListN.{length, set, length-set, List·getD-append}
 use lib.Pow.{pow-add, pow-pos}
-use Rattle.octets.specs.Bits.{bits, bitOf, clear, clearAt, find}
-use Rattle.octets.proofs.Cases.{cases, holds?}
+use Rattle.octets.specs.Bits.{bits, bitOf, clear, clearAt}
 use Rattle.octets.proofs.Each.{same}
 use Rattle.octets.proofs.Lists.{set-append}
 
@@ -46,20 +43,6 @@ bits-part w at count = omega (arith, bits-join w at count, mod-le w (2 ^ (at + c
 -- a one shifted within a byte
 pub shifted-one : (k : ℕ) → k < 8 → 1 * 2 ^ k % 256 ≡ 2 ^ k
 shifted-one k h = same (λ (k : ℕ). 1 * 2 ^ k % 256) (λ (k : ℕ). 2 ^ k) 8 tt k h
-
--- each value of a table stands beside its own bits
-abbrev pub Beside : {A : Type 0} → (A → ℕ) → List (ℕ × A) → Type 0
-Beside bitsOf [] = Unit
-Beside bitsOf (entry ∷ rest) = (bitsOf (entry .1) ≡ entry .0) × Beside bitsOf rest
-
--- then any number is not listed, or is the bits of the value that is found for it
-pub find-again : {A B : Type 0} (bitsOf : A → ℕ) (table : List (ℕ × A)) (other : B) (make : A → B) (n : ℕ) → Beside bitsOf table →
-    (find table other make n ≡ other) ⊎ ((v : A) × (find table other make n ≡ make v) × (bitsOf v ≡ n))
-find-again bitsOf [] other make n h = inl refl
-find-again bitsOf (entry ∷ rest) other make n h =
-    cases (holds? (eqb n (entry .0)))
-    (λ e. inr (entry .1, simp e, h .0 ∙ sym (eqb-true n (entry .0) e)))
-    (λ e. simp e (find-again bitsOf rest other make n (h .1)))
 
 -- bits cleared behind other bytes
 clear-after : (p l : List ℕ) (at count : ℕ) → clearAt (length p) at count (p ++ l) ≡ p ++ clearAt 0 at count l

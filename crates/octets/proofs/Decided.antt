@@ -1,7 +1,7 @@
 -- That two answers allowed by a contract coincide (document 01, "What each contract has to decide"), for each shape that the contract of
 -- a public function has.
 -- Assumes nothing.
-use Prim.Native.Nat.{ℕ, _+_}
+use Prim.Native.Nat.{ℕ}
 use mathlib.Core.List.{List}
 use mathlib.Core.Path.{_≡_, sym, ap, _∙_}
 use denote.Ref.{RefT, now, ptr}

@@ -54,12 +54,6 @@ whole-more s more at whole =
     let enough : ends (s ++ more) at (lengthIn s at) ≡ false = le-ltb (length (s ++ more) - at) (lengthIn s at) there in
     simp (length-more s more at whole, enough, security-more s more at whole)
 
-pub read-more : (s more : List ℕ) (at : ℕ) (h : AuxiliarySecurityHeader) (n : ℕ) → readSecurity s at ≡ Read h n →
-    readSecurity (s ++ more) at ≡ Read h n
-read-more s more at h n e =
-    let q = accepted-whole s at h n e in
-    whole-more s more at (q .0) ∙ (λ i. Read (q .1 i) (q .2 i))
-
 module _ (s : List ℕ) (at : ℕ) (b : Bytes s) (whole : at + lengthIn s at ≤ length s) where
   abbrev header : AuxiliarySecurityHeader
   header = securityIn s at

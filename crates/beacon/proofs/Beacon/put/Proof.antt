@@ -13,7 +13,7 @@ use Rattle.superframe.specs.Superframe.{superframeBytes, writeSuperframe}
 use Rattle.superframe.proofs.Superframe.{superframe-length}
 use Rattle.time_slots.specs.TimeSlots.{timeSlotsBytes, timeSlotsSize, writeTimeSlots}
 use Rattle.time_slots.proofs.TimeSlots.{plain-size, time-slots-length}
-use Rattle.pending.specs.Pending.{pendingBytes, writePending}
+use Rattle.pending.specs.Pending.{writePending}
 use Rattle.beacon.specs.Beacon.{beaconBytes}
 use Rattle.beacon.proofs.Content.{fitting, whole-stored}
 use Rattle.beacon.proofs.Beacon.put.Statement.{statement}

@@ -1,6 +1,6 @@
 -- `header::Header::read` meets its contract: what measuring refuses is refused, and what it accepts is the record of the fields.
 -- Assumes nothing.
-use mathlib.Core.Path.{_≡_, sym, ap, _∙_}
+use mathlib.Core.Path.{sym, ap, _∙_}
 use borrow.Author.Needs.{needs}
 use denote.Ref.{now}
 use Rattle.octets.specs.declared.Outcome.{Outcome}

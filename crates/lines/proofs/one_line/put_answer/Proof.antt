@@ -1,6 +1,6 @@
 -- `lines::one_line::put_answer` meets its contract: each way out is one of the laws of a line that is parted at its first tab.
 -- Assumes nothing.
-use Prim.Native.Nat.{ℕ, _+_, _≤_}
+use Prim.Native.Nat.{ℕ, _+_}
 use native.Mathlib.Nat.{le-of-lt}
 use native.Mathlib.Omega.{arith}
 use mathlib.Core.List.{List, _++_}
