@@ -11,33 +11,30 @@ use Rattle.header_bytes.specs.Layout.{panSize, addressSize}
 use Rattle.header_bytes.proofs.address_size.Statement.{statement}
 use Rattle.header_bytes.proofs.address_size.Tie as tie
 
+-- an arm, whose number is that of a compression bit k and a mode m
+arm : (compressed mode k m size : ℕ) → (compressed < 2) × (mode < 4) → m < 4 → 4 * compressed + mode ≡ 4 * k + m →
+    size ≡ panSize (not (eqb k 1) && ltb 1 m) + addressSize m → size ≤ 10 →
+    (size ≡ panSize (not (eqb compressed 1) && ltb 1 mode) + addressSize mode) × (size ≤ 10)
+arm compressed mode k m size small low e g h =
+    let f : compressed ≡ k = omega arith in
+    let j : mode ≡ m = omega arith in
+    rw (f, j) (g, h)
+
 short : tie.Need-returns
 short c =
-    let a = c .before .args in
-    let own : a .compressed ≡ 0 = omega (arith, c .match .keys1) in
-    let mode : a .mode ≡ 2 = omega (arith, c .match .keys1) in
-    rw (own, mode) (refl, omega arith)
+    arm (c .before .args .compressed) (c .before .args .mode) 0 2 4 (c .before .pre) (omega arith) (c .match .keys1) refl (omega arith)
 
 extended : tie.Need-returns-2
 extended c =
-    let a = c .before .args in
-    let own : a .compressed ≡ 0 = omega (arith, c .match .keys2) in
-    let mode : a .mode ≡ 3 = omega (arith, c .match .keys2) in
-    rw (own, mode) (refl, omega arith)
+    arm (c .before .args .compressed) (c .before .args .mode) 0 3 10 (c .before .pre) (omega arith) (c .match .keys2) refl (omega arith)
 
 bare-short : tie.Need-returns-3
 bare-short c =
-    let a = c .before .args in
-    let own : a .compressed ≡ 1 = omega (arith, c .match .keys3) in
-    let mode : a .mode ≡ 2 = omega (arith, c .match .keys3) in
-    rw (own, mode) (refl, omega arith)
+    arm (c .before .args .compressed) (c .before .args .mode) 1 2 2 (c .before .pre) (omega arith) (c .match .keys3) refl (omega arith)
 
 bare-extended : tie.Need-returns-4
 bare-extended c =
-    let a = c .before .args in
-    let own : a .compressed ≡ 1 = omega (arith, c .match .keys4) in
-    let mode : a .mode ≡ 3 = omega (arith, c .match .keys4) in
-    rw (own, mode) (refl, omega arith)
+    arm (c .before .args .compressed) (c .before .args .mode) 1 3 8 (c .before .pre) (omega arith) (c .match .keys4) refl (omega arith)
 
 neither : (c m : ℕ) → c < 2 → (4 * c + m ≡ 2 → ⊥) → (4 * c + m ≡ 3 → ⊥) → (4 * c + m ≡ 6 → ⊥) → (4 * c + m ≡ 7 → ⊥) →
     (m ≡ 2 → ⊥) × (m ≡ 3 → ⊥)
