@@ -1,0 +1,5 @@
+pub mod Masks
+pub mod Notes
+pub mod Answers
+pub mod Lists
+pub mod Told
