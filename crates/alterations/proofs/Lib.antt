@@ -3,3 +3,5 @@ pub mod Notes
 pub mod Answers
 pub mod Lists
 pub mod Told
+pub mod Places
+pub mod Bounds
