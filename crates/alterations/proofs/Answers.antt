@@ -101,3 +101,17 @@ frame-accepted s m e =
       long = ap (λ (o : Outcome). o .length) (sym (simp (read, there, f) at e));
     })))
     (λ f. absurd (eqb-false _ 0 f (simp f at z)))
+
+pub frame-accepts : (s : List ℕ) (m : ℕ) → Accepted s m → rewriteFrame s ≡ accepted m
+frame-accepts s m a =
+    let w = number s 0 2 in
+    let n = headerEnd s w in
+    let z = ap (λ (o : Outcome). o .number) (a .read) in
+    cases (holds? (holdsBeacon w))
+    (λ t.
+    let long : m ≡ n + beaconLengthIn s n = simp t at (a .long) in
+    let there = ap (λ r. r .outcome .length) (beacon-read s n (a .beacon t) .0) in
+    sym (both-accepted s z t (a .beacon t) (a .source)) ∙ ap (λ (k : ℕ). accepted (n + k)) there ∙ ap accepted (sym long))
+    (λ f.
+    let long : m ≡ n + 0 = simp f at (a .long) in
+    sym (alone-accepted s z f (a .source)) ∙ a .read ∙ ap accepted (sym (add-zero n) ∙ sym long))

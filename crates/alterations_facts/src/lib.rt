@@ -1,0 +1,1 @@
+// Theorems about the bits that rewriting alters; no code.
