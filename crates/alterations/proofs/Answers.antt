@@ -23,7 +23,7 @@ lost-beacon : (on : Bool) (k : ℕ) → (on && not (eqb k 0)) ≡ true → k ≡
 lost-beacon true k e z = true≢false (sym e ∙ ap not (eq-eqb k 0 z))
 lost-beacon false k e z = true≢false (sym e)
 
-there-beacon : (on : Bool) (k : ℕ) → (on && not (eqb k 0)) ≡ false → on ≡ true → k ≡ 0
+pub there-beacon : (on : Bool) (k : ℕ) → (on && not (eqb k 0)) ≡ false → on ≡ true → k ≡ 0
 there-beacon true k e on = cases (holds? (eqb k 0)) (λ t. eqb-true k 0 t) (λ f. absurd (true≢false (sym (ap not f) ∙ e)))
 there-beacon false k e on = absurd (true≢false (sym on))
 

@@ -36,8 +36,7 @@ unfolding beaconIn timeSlotsIn
 beacon-counts s t at z e =
     let first = beacon-read s at z .0 in
     let second = beacon-read t at (ap (λ (r : BeaconRead). r .outcome .number) e ∙ z) .0 in
-    let same = sym second ∙ e ∙ first in
-    (
+    let same = sym second ∙ e ∙ first in (
       ap (λ (r : BeaconRead). r .beacon .«guaranteed_time_slot_info» .«slot_count») same,
       ap (λ (r : BeaconRead). r .outcome .length) same,
     )

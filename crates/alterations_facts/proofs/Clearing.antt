@@ -90,7 +90,7 @@ abbrev pub shifted : ℕ → List (ℕ × List ℕ) → List (ℕ × List ℕ)
 shifted n [] = []
 shifted n (x ∷ l) = (n + x .0, x .1) ∷ shifted n l
 
-listed-before : (n : ℕ) (l : List (ℕ × List ℕ)) (i b : ℕ) → Below n l → n ≤ i → isListed l i b ≡ false
+pub listed-before : (n : ℕ) (l : List (ℕ × List ℕ)) (i b : ℕ) → Below n l → n ≤ i → isListed l i b ≡ false
 listed-before n [] i b h k = refl
 listed-before n (x ∷ l) i b h k =
     simp (ne-eqb i (x .0) (λ e. absurd (omega (arith, h .0)))) (listed-before n l i b (h .1) k)

@@ -55,7 +55,7 @@ either true false true = refl
 either true false false = refl
 either false a c = refl
 
-pending : (place : ℕ) (l : List ℕ) → Bytes l → place < length l → 
+pending : (place : ℕ) (l : List ℕ) → Bytes l → place < length l →
     Clears ((place, 3 ∷ 7 ∷ []) ∷ []) l (clearAt place 3 1 (clearAt place 7 1 l))
 pending place l y h =
     let first = clears-at place 7 1 (7 ∷ []) l tt y h in

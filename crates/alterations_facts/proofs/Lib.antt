@@ -5,3 +5,7 @@ pub mod Clearing
 pub mod Frames
 pub mod Records
 pub mod Alike
+pub mod Order
+pub mod Bridge
+pub mod Rule
+pub mod Told

@@ -35,14 +35,13 @@ all-cond false l h = tt
 
 header-listable : (w : ℕ) → AllListable (headerBits w)
 unfolding mask
-header-listable w =
-    (
-      listable (7 ∷ []) tt tt,
-      (
-        listable (0 ∷ 1 ∷ []) tt tt,
-        all-cond (bit w 3) ((sourceEnd w, 5 ∷ 6 ∷ 7 ∷ []) ∷ []) (listable (5 ∷ 6 ∷ 7 ∷ []) tt tt, tt),
-      ),
-    )
+header-listable w = (
+  listable (7 ∷ []) tt tt,
+  (
+    listable (0 ∷ 1 ∷ []) tt tt,
+    all-cond (bit w 3) ((sourceEnd w, 5 ∷ 6 ∷ 7 ∷ []) ∷ []) (listable (5 ∷ 6 ∷ 7 ∷ []) tt tt, tt),
+  ),
+)
 
 slots-listable : (n place : ℕ) → n < 8 → AllListable (directionBits n place)
 slots-listable zero place h = tt
@@ -51,13 +50,12 @@ slots-listable (suc k) place h = (directions-listable (suc k) h, tt)
 beacon-listable : (s : List ℕ) (at : ℕ) → AllListable (beaconBits s at)
 unfolding mask
 beacon-listable s at =
-    let count = slotCountIn s (at + 2) in
-    (
+    let count = slotCountIn s (at + 2) in (
       listable (5 ∷ []) tt tt,
       (
         listable (3 ∷ 4 ∷ 5 ∷ 6 ∷ []) tt tt,
         all-append (directionBits count (at + 3)) ((pendingPlace s at, 3 ∷ 7 ∷ []) ∷ []) (slots-listable count (at + 3) (omega arith))
-        (listable (3 ∷ 7 ∷ []) tt tt, tt),
+            (listable (3 ∷ 7 ∷ []) tt tt, tt),
       ),
     )
 

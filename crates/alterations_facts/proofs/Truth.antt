@@ -59,3 +59,8 @@ and-left false b e = e
 pub and-right : (a b : Bool) → (a && b) ≡ true → b ≡ true
 and-right true b e = e
 and-right false b e = absurd (true≢false (sym e))
+
+pub and-never : (a b : Bool) → ((a && not b) && b) ≡ false
+and-never true true = refl
+and-never true false = refl
+and-never false b = refl

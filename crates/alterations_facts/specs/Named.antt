@@ -21,10 +21,10 @@ isListed [] i b = false
 isListed (x ∷ l) i b = (eqb i (x .0) && among (x .1) b) || isListed l i b
 
 -- the places rise, all of them above one that went before
-abbrev pub Above : ℕ → List (ℕ × ℕ) → Type 0
+abbrev pub Above : {A : Type 0} → ℕ → List (ℕ × A) → Type 0
 Above place [] = Unit
 Above place (x ∷ l) = (place < x .0) × Above (x .0) l
 
-abbrev pub Rising : List (ℕ × ℕ) → Type 0
+abbrev pub Rising : {A : Type 0} → List (ℕ × A) → Type 0
 Rising [] = Unit
 Rising (x ∷ l) = Above (x .0) l
