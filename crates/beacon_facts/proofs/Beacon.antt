@@ -325,3 +325,9 @@ beacon-laws =
         settled = beacon-settled x typed f;
       };
     }
+
+-- a beacon that is read lies whole in the input
+pub beacon-within : (s : List ℕ) (at : ℕ) → readBeacon s at .outcome .number ≡ 0 → readBeacon s at .outcome .length ≤ length s - at
+beacon-within s at e =
+    let q = beacon-read s at e in
+    rw (q .0) (all-found s at (q .1))

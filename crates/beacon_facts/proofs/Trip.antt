@@ -56,6 +56,13 @@ beacon-rewritten = rewritten beacon beacon-laws
 pub beacon-returned : FromRecord beacon
 beacon-returned = beacon-laws .returned
 
+-- no beacon has more than 96 bytes
+pub beacon-most : (s : List ℕ) (at : ℕ) → beaconLengthIn s at ≤ 96
+unfolding beaconLengthIn
+beacon-most s at =
+    let slots : slotsLength (slotCountIn s (at + 2)) ≤ 22 = few-length (slotCountIn s (at + 2)) (omega arith) in
+    omega arith
+
 -- an accepted beacon occupies 4 to 96 bytes and never more than the input
 pub beacon-occupies : (s : List ℕ) (at : ℕ) (x : Beacon) (n : ℕ) → readBeacon s at ≡ beaconAccepted x n →
     (4 ≤ n) × (n ≤ 96) × (at + n ≤ length s)
@@ -63,8 +70,7 @@ unfolding beaconLengthIn
 beacon-occupies s at x n e =
     let read = beacon-read s at (ap (λ (r : BeaconRead). r .outcome .number) e) in
     let count : beaconLengthIn s at ≡ n = ap (λ (r : BeaconRead). r .outcome .length) (sym (read .0) ∙ e) in
-    let slots : slotsLength (slotCountIn s (at + 2)) ≤ 22 = few-length (slotCountIn s (at + 2)) (omega arith) in
-    rw (sym count) (omega arith, omega arith, omega (arith, all-found s at (read .1)))
+    rw (sym count) (omega arith, beacon-most s at, omega (arith, all-found s at (read .1)))
 
 -- an accepted writing stores the bytes
 after-stored : (x : Beacon) (n : ℕ) (out : List ℕ) (to : ℕ) → writeBeacon x out to ≡ Written n →

@@ -9,12 +9,14 @@ use borrow.Author.Tests.{lt-ltb, le-ltb}
 use lib.ListN.{length}
 use Rattle.octets.specs.Outcome.{accepted, refused}
 use Rattle.octets.specs.Part.{ends}
+use Rattle.octets.proofs.Cases.{cases, holds?}
 use Rattle.octets.proofs.Order.{first-map}
 use Rattle.time_slots.specs.TimeSlots.{timeSlotsLengthIn}
 use Rattle.pending.specs.Pending.{pendingLengthIn}
 use Rattle.beacon.specs.declared.BeaconRead.{BeaconRead}
 use Rattle.beacon.specs.Beacon.{pendingPlace, beaconLengthIn, beaconRefused, readBeacon}
 use Rattle.beacon_facts.proofs.Beacon.{beacon-reading}
+use Rattle.beacon_facts.proofs.Trip.{beacon-most}
 
 told : (s : List ℕ) (at : ℕ) → readBeacon s at .outcome ≡ cond (ends s at (beaconLengthIn s at)) (refused 1)
     (accepted (beaconLengthIn s at))
@@ -40,3 +42,10 @@ unfolding beaconLengthIn
 beacon-parts s at m n e f =
     let place : at + (2 + m) ≡ pendingPlace s at = omega arith in
     rw (f, place, e)
+
+-- an answer's number is at most 1, and its length at most 96
+pub outcome-most : (s : List ℕ) (at : ℕ) → (readBeacon s at .outcome .number ≤ 1) × (readBeacon s at .outcome .length ≤ 96)
+outcome-most s at =
+    cases (holds? (ends s at (beaconLengthIn s at)))
+    (λ t. rw (told s at) (simp t (omega arith, omega arith)))
+    (λ f. rw (told s at) (simp f (omega arith, beacon-most s at)))

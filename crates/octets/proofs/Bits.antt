@@ -1,6 +1,6 @@
 -- Laws of the bits of a number.
 -- Assumes nothing.
-use Prim.Native.Nat.{ℕ, zero, suc, _+_, _*_, _%_, _^_, _≤_, _<_}
+use Prim.Native.Nat.{ℕ, zero, suc, _+_, _*_, _/_, _%_, _^_, _≤_, _<_}
 use native.Mathlib.Nat.{mul-comm, mod-le, div-one}
 use native.Mathlib.Omega.{arith}
 use mathlib.Core.Bool.{Bool, true, false}
@@ -43,6 +43,13 @@ bits-part w at count = omega (arith, bits-join w at count, mod-le w (2 ^ (at + c
 -- a one shifted within a byte
 pub shifted-one : (k : ℕ) → k < 8 → 1 * 2 ^ k % 256 ≡ 2 ^ k
 shifted-one k h = same (λ (k : ℕ). 1 * 2 ^ k % 256) (λ (k : ℕ). 2 ^ k) 8 tt k h
+
+pub shifted-some : (k : ℕ) → k < 8 → 0 < 1 * 2 ^ k % 256
+shifted-some k h = rw (shifted-one k h) (pow-pos k)
+
+-- the bits of a byte taken by shifts
+pub shifted-part : (b at count : ℕ) → at < 8 → count < 8 → b / 2 ^ at % (1 * 2 ^ count % 256) * (1 * 2 ^ at % 256) ≤ b
+shifted-part b at count h k = rw (shifted-one at h, shifted-one count k) (bits-part b at count)
 
 -- bits cleared behind other bytes
 clear-after : (p l : List ℕ) (at count : ℕ) → clearAt (length p) at count (p ++ l) ≡ p ++ clearAt 0 at count l

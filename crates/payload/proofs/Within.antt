@@ -15,14 +15,8 @@ use Rattle.header.specs.declared.HeaderRead.the-variants.{Read, Refused}
 use Rattle.header.specs.Read.{readHeader}
 use Rattle.header.proofs.Bounds.{length-bounds, refusal-some}
 use Rattle.beacon.specs.Beacon.{readBeacon}
-use Rattle.beacon_facts.proofs.Beacon.{beacon-read, all-found}
+use Rattle.beacon_facts.proofs.Beacon.{beacon-within}
 use Rattle.payload.specs.Frame.{unsecuredBeacon, behindBeacon, frameAfter, readFrame}
-
--- a beacon that is read lies whole in the input
-pub beacon-within : (s : List ℕ) (at : ℕ) → readBeacon s at .outcome .number ≡ 0 → readBeacon s at .outcome .length ≤ length s - at
-beacon-within s at e =
-    let q = beacon-read s at e in
-    rw (q .0) (all-found s at (q .1))
 
 behind-within : (s : List ℕ) (at : ℕ) → at ≤ length s → behindBeacon at (readBeacon s at .outcome) .number ≡ 0 →
     behindBeacon at (readBeacon s at .outcome) .length ≤ length s

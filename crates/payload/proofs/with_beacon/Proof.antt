@@ -6,7 +6,7 @@ use native.Mathlib.Omega.{arith}
 use borrow.Author.Needs.{needs}
 use denote.Ref.{now}
 use Rattle.beacon.specs.declared.BeaconRead.{BeaconRead}
-use Rattle.payload.proofs.Within.{beacon-within}
+use Rattle.beacon_facts.proofs.Beacon.{beacon-within}
 use Rattle.payload.proofs.with_beacon.Statement.{statement}
 use Rattle.payload.proofs.with_beacon.Tie as tie
 

@@ -3,7 +3,7 @@
 use mathlib.Core.Path.{_∙_}
 use borrow.Author.Needs.{needs}
 use denote.Ref.{now}
-use Rattle.gateway.proofs.Shifts.{directions-some, directions-none}
+use Rattle.gateway.proofs.Directions.{directions-some, directions-none}
 use Rattle.gateway.proofs.clearing.clear_directions.Statement.{statement}
 use Rattle.gateway.proofs.clearing.clear_directions.Tie as tie
 

@@ -2,8 +2,7 @@
 -- Assumes nothing.
 use native.Mathlib.Omega.{arith}
 use borrow.Author.Needs.{needs}
-use Rattle.octets.proofs.Bits.{shifted-one}
-use Rattle.gateway.proofs.Shifts.{shifted-some, shifted-part}
+use Rattle.octets.proofs.Bits.{shifted-one, shifted-some, shifted-part}
 use Rattle.gateway.proofs.clearing.cleared.Statement.{statement}
 use Rattle.gateway.proofs.clearing.cleared.Tie as tie
 

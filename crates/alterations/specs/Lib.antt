@@ -1,0 +1,4 @@
+pub mod Listed
+pub mod Rewriting
+pub mod Altered
+pub mod Noted
