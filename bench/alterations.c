@@ -90,11 +90,15 @@ static void expect(const struct frame *f, uint8_t *answer)
     if (beacon != 0)
         knobtangle_rewrite_beacon(f->bytes + header, f->length - header, out + header, ROOM - header);
     answer[LENGTH] = (uint8_t)(header + beacon);
-    for (uint8_t i = 0; i < answer[LENGTH]; i++)
-        if (f->bytes[i] != out[i] && answer[COUNT] < 6) {
+    for (uint8_t i = 0; i < answer[LENGTH]; i++) {
+        if (f->bytes[i] == out[i])
+            continue;
+        if (answer[COUNT] < MASKS - PLACES) {
             answer[PLACES + answer[COUNT]] = i;
-            answer[MASKS + answer[COUNT]++] = f->bytes[i] ^ out[i];
+            answer[MASKS + answer[COUNT]] = f->bytes[i] ^ out[i];
         }
+        answer[COUNT]++;
+    }
 }
 
 /* Whether altered_bits tells of a frame what the two entries leave. */
