@@ -1,10 +1,9 @@
 /* Calls one entry on one frame, or on a corpus, many times. Told are the instructions by which a run grows for each call, less those of an empty call.
    Also tells what the four entries answer on blocks of frames, so that two archives can be held beside each other.
    usage: driver CASE COUNT, driver list, driver check, driver answers [BLOCK] */
-#include <stdint.h>
 #include <stdio.h>
-#include <stdlib.h>
-#include <string.h>
+
+#include "frames.h"
 
 uint64_t knobtangle_read_header(const uint8_t *frame, size_t length);
 uint64_t knobtangle_read_beacon(const uint8_t *content, size_t length);
@@ -15,13 +14,6 @@ uint64_t empty_rewrite(const uint8_t *frame, size_t length, uint8_t *out, size_t
 
 typedef uint64_t reader(const uint8_t *, size_t);
 typedef uint64_t rewriter(const uint8_t *, size_t, uint8_t *, size_t);
-
-enum { FRAMES = 1000, LONGEST = 100 };
-
-struct frame {
-    size_t length;
-    uint8_t bytes[LONGEST];
-};
 
 static struct frame headers[FRAMES], beacons[FRAMES];
 
@@ -35,14 +27,6 @@ struct trial {
     uint64_t answer;
     const struct frame *corpus;
 };
-
-#define P7 "418807341201000200"
-#define P11 "090001ED0100000007"
-#define HEADER37 "09DC0734120102030405060708785611121314151617181D01000000212223242526272807"
-#define P12 "46CF81FF02003500"
-#define BEACON96 \
-    "46CF87550100100200210300320400430500540600650700767701000200030004000500060007000102030405060708" \
-    "111213141516171821222324252627283132333435363738414243444546474851525354555657586162636465666768"
 
 static const struct trial trials[] = {
     {"empty-read", empty_read, 0, P7, 0, 0, 0},
@@ -60,7 +44,7 @@ static const struct trial trials[] = {
     {"rewrite-P11", 0, knobtangle_rewrite_header, P11, 40, 9, 0},
     {"rewrite-37-bytes", 0, knobtangle_rewrite_header, HEADER37, 40, 37, 0},
     {"rewrite-1-P7-room-8", 0, knobtangle_rewrite_header, P7, 8, 1001, 0},
-    {"rewrite-6-P9", 0, knobtangle_rewrite_header, "41080734120100", 40, 1006, 0},
+    {"rewrite-6-P9", 0, knobtangle_rewrite_header, P9, 40, 1006, 0},
     {"beacon-read-P12", knobtangle_read_beacon, 0, P12, 0, 8, 0},
     {"beacon-read-96-bytes", knobtangle_read_beacon, 0, BEACON96, 0, 96, 0},
     {"beacon-read-1", knobtangle_read_beacon, 0, "FF0F00", 0, 1001, 0},
@@ -76,57 +60,6 @@ static const struct trial trials[] = {
 };
 
 enum { TRIALS = sizeof trials / sizeof trials[0] };
-
-static uint64_t state = 0x9e3779b97f4a7c15;
-
-static uint8_t draw(void)
-{
-    state ^= state << 13;
-    state ^= state >> 7;
-    state ^= state << 17;
-    return (uint8_t)(state >> 56);
-}
-
-static size_t extent(unsigned choice, uint8_t drawn, unsigned most)
-{
-    return choice % 4 == 0 ? drawn % most : most + drawn % 4;
-}
-
-/* As family 0 of oracle/FORMAT.md makes them: three in four mended, one in four cut short, one in four with a bit turned over. */
-static void make_header(struct frame *f)
-{
-    uint8_t mode = draw(), r = draw(), *bytes = f->bytes;
-    for (int k = 0; k < 6; k++)
-        draw();
-    for (int k = 0; k < 41; k++)
-        bytes[k] = draw();
-    uint8_t place = draw(), bit = draw();
-    if (mode % 4 != 0) {
-        if (bytes[0] % 8 == 4)
-            bytes[0] -= 4;
-        if (bytes[1] / 16 % 4 == 3)
-            bytes[1] -= 32;
-        if (bytes[1] / 4 % 4 == 1)
-            bytes[1] += 4;
-        if (bytes[1] / 64 == 1)
-            bytes[1] += 64;
-    }
-    if (mode % 4 >= 2 && bytes[0] / 64 % 2 == 1 && bytes[1] / 4 % 4 == 0)
-        bytes[1] += 8;
-    if (mode / 64 == 0)
-        bytes[place % 41] ^= 1 << bit % 8;
-    f->length = extent(mode / 4, r, 37);
-}
-
-/* As family 1 makes them: any bytes, one in four cut short. */
-static void make_beacon(struct frame *f)
-{
-    uint8_t mode = draw(), r = draw();
-    draw();
-    for (int k = 0; k < 100; k++)
-        f->bytes[k] = draw();
-    f->length = extent(mode, r, 96);
-}
 
 static void make_corpora(void)
 {
@@ -208,16 +141,6 @@ static void answer_all(void)
         answer_block(block, 0);
         printf("%llu %016llx %llu\n", (unsigned long long)block, (unsigned long long)digest, (unsigned long long)answered);
     }
-}
-
-static size_t bytes_of(const char *hex, uint8_t *out)
-{
-    size_t n = strlen(hex) / 2;
-    for (size_t i = 0; i < n; i++) {
-        char pair[3] = {hex[2 * i], hex[2 * i + 1], 0};
-        out[i] = (uint8_t)strtoul(pair, 0, 16);
-    }
-    return n;
 }
 
 /* The sum of the answers: kept, so that no call is saved, and not printed, so that a run costs no more than its calls. */

@@ -32,8 +32,11 @@ enum fault {
     INPUT_WRITTEN,      /* the input is written, with what it holds */
     PREFIX,             /* a refused rewrite leaves a prefix */
     BIT_7,              /* frame control bit 7 is kept */
+    BITS_8_9,           /* frame control bits 8 and 9 are kept */
     SECURITY_BITS,      /* security control bits 5 to 7 are kept */
     OTHER_BIT,          /* a bit that is not listed is altered, once in 256 sequence numbers */
+    PENDING_FLAG,       /* frame control bit 4, which is not listed, is cleared */
+    SECURITY_LEVEL,     /* security control bit 2, which is not listed, is cleared */
     PAST_LENGTH,        /* a byte behind the length is written */
     PAST_ROOM,          /* a byte behind out is written */
     BEFORE_ROOM,        /* a byte before out is written */
@@ -44,8 +47,13 @@ enum fault {
     TWICE,              /* what was rewritten is rewritten otherwise */
     BEACON_SHORT,       /* a beacon short by one byte is read */
     BEACON_LONG,        /* a beacon has to have a byte behind it */
+    SUPERFRAME_BIT,     /* bit 5 of a beacon's byte 1 is kept */
+    GTS_BITS,           /* GTS header bits 3 to 6 are kept */
     DIRECTIONS,         /* direction bits of slots that are not there are kept */
-    PENDING_BITS,       /* pending header bit 7 is kept */
+    ALL_DIRECTIONS,     /* direction bits of slots that are there are cleared */
+    LAST_DIRECTION,     /* the direction bit of the last of seven slots is cleared */
+    PENDING_BITS,       /* pending header bits 3 and 7 are kept */
+    GTS_PERMIT,         /* GTS header bit 7, which is not listed, is cleared */
     BEACON_ROOM,        /* a refused beacon is written as far as there is room */
     FAULTS
 };
@@ -123,10 +131,16 @@ size_t __wrap_knobtangle_rewrite_header(const byte *frame, size_t length, byte *
         memcpy(out, frame, 3);
     if (at(BIT_7) && accepted)
         out[0] = frame[0];
+    if (at(BITS_8_9) && accepted)
+        out[1] = frame[1];
     if (at(SECURITY_BITS) && accepted && secured_alone(frame))
         out[3] = frame[3];
     if (at(OTHER_BIT) && accepted && frame[2] == 0x5c)
         out[2] ^= 0x40;
+    if (at(PENDING_FLAG) && accepted)
+        out[0] &= 0xef;
+    if (at(SECURITY_LEVEL) && accepted && secured_alone(frame))
+        out[3] &= 0xfb;
     if (at(PAST_LENGTH) && result < room)
         out[result] = 0;
     if (at(PAST_ROOM) && accepted)
@@ -152,10 +166,20 @@ size_t __wrap_knobtangle_rewrite_beacon(const byte *content, size_t length, byte
     size_t result = __real_knobtangle_rewrite_beacon(content, length, out, room);
     int accepted = !knobtangle_refused(result);
 
+    if (at(SUPERFRAME_BIT) && accepted)
+        out[1] = content[1];
+    if (at(GTS_BITS) && accepted)
+        out[2] = content[2];
     if (at(DIRECTIONS) && accepted && (content[2] & 7) != 0)
         out[3] = content[3];
+    if (at(ALL_DIRECTIONS) && accepted && (content[2] & 7) != 0)
+        out[3] = 0;
+    if (at(LAST_DIRECTION) && accepted && (content[2] & 7) == 7)
+        out[3] &= 0xbf;
     if (at(PENDING_BITS) && accepted && (content[2] & 7) == 0)
         out[3] = content[3];
+    if (at(GTS_PERMIT) && accepted)
+        out[2] &= 0x7f;
     if (at(BEACON_ROOM) && !accepted && room > 0 && !knobtangle_refused(__real_knobtangle_read_beacon(content, length)))
         out[room - 1] = content[room - 1];
     return result;

@@ -23,7 +23,8 @@
  *     header   frame control bits 7, 8 and 9 (bit 7 of byte 0, bits 0 and 1 of byte 1); security control bits 5, 6 and 7
  *     beacon   byte 1 bit 5; GTS header bits 3 to 6; of a direction byte, the bits of slots that are not there; pending header
  *              bits 3 and 7
- * The returned length is that of reading. The bytes of out behind it, and after a refusal all bytes of out, stay as they were.
+ * The returned length is that of reading. The bytes of out behind it, and after a refusal all bytes of out, stay as they were. No bit goes
+ * from 0 to 1, so the frame's byte i xor out's byte i has just the bits that were altered there.
  *
  * The entries keep nothing between calls, allocate nothing and may run in several threads at a time.
  */

@@ -4,8 +4,8 @@
  *
  * Every input lies in read-only memory, at its very end with unreadable memory behind it or at its very beginning with unreadable memory
  * before it. Every output has guard bytes or unreadable memory before and behind it. Each answer and each byte afterwards is held to
- * what this file works out from document 01 by itself. Prints one line where all is as expected; otherwise what is not, with the frame in
- * hex, and ends with status 1.
+ * what this file works out from document 01 by itself: the numbers, the lengths, and the list of the bits that rewriting alters. Prints one
+ * line where all is as expected; otherwise what is not, with the frame in hex, and ends with status 1.
  */
 #define _POSIX_C_SOURCE 200809L
 
@@ -26,7 +26,7 @@ enum {
     EDGE = 65536,     /* unreadable memory on each side: a multiple of any page */
     AREA = 2 * EDGE,  /* what lies between */
     GUARD = 64,       /* guard bytes on each side of an output */
-    MOST = 128,       /* bytes that hold any header or beacon, with some to spare */
+    MOST = 128,       /* bytes that hold any header with a beacon behind it, with some to spare */
     ENOUGH = 1000     /* how often the random frames have to meet each answer */
 };
 
@@ -183,7 +183,7 @@ static void prepare(void)
 
 enum { REFUSED = 1000 };
 
-/* The bits that rewriting clears, and no others; of a direction byte those of slots that are not there. */
+/* The bits that rewriting clears where they are set, and no others; of a direction byte those of slots that are not there. */
 enum {
     CONTROL_LOW = 0x80,
     CONTROL_HIGH = 0x03,
@@ -196,18 +196,23 @@ enum {
 struct expected {
     size_t read;         /* reading's answer */
     int unwritable;      /* it is read, and writing it is refused with 6 */
-    byte bytes[MOST];    /* accepted: the bytes rewritten */
+    size_t count;        /* accepted: how many of its bytes have listed bits, where they are and which these are */
+    struct {
+        size_t at;
+        byte bits;
+    } listed[6];
 };
 
-static void clear(struct expected *e, size_t at, unsigned bits)
+static void list(struct expected *e, size_t at, unsigned bits)
 {
-    e->bytes[at] &= (byte)~bits;
+    e->listed[e->count].at = at;
+    e->listed[e->count++].bits = (byte)bits;
 }
 
 static struct expected expect_header(const byte *s, size_t n)
 {
     static const size_t address[] = {0, 0, 2, 8}, key[] = {0, 1, 5, 9};
-    struct expected e = {REFUSED + 1, 0, {0}};
+    struct expected e = {REFUSED + 1, 0, 0, {{0, 0}}};
 
     if (n < 3)
         return e;
@@ -236,17 +241,16 @@ static struct expected expect_header(const byte *s, size_t n)
     if (e.read >= REFUSED)
         return e;
     e.unwritable = compressed && from == 0;
-    memcpy(e.bytes, s, end);
-    clear(&e, 0, CONTROL_LOW);
-    clear(&e, 1, CONTROL_HIGH);
+    list(&e, 0, CONTROL_LOW);
+    list(&e, 1, CONTROL_HIGH);
     if (security != 0)
-        clear(&e, security, SECURITY_CONTROL);
+        list(&e, security, SECURITY_CONTROL);
     return e;
 }
 
 static struct expected expect_beacon(const byte *s, size_t n)
 {
-    struct expected e = {REFUSED + 1, 0, {0}};
+    struct expected e = {REFUSED + 1, 0, 0, {{0, 0}}};
 
     if (n < 4)
         return e;
@@ -257,12 +261,27 @@ static struct expected expect_beacon(const byte *s, size_t n)
     if (n < end)
         return e;
     e.read = end;
-    memcpy(e.bytes, s, end);
-    clear(&e, 1, SUPERFRAME_HIGH);
-    clear(&e, 2, GTS_HEADER);
+    list(&e, 1, SUPERFRAME_HIGH);
+    list(&e, 2, GTS_HEADER);
     if (slots != 0)
-        clear(&e, 3, 0xffu << slots);
-    clear(&e, pending, PENDING_HEADER);
+        list(&e, 3, 0xffu << slots);
+    list(&e, pending, PENDING_HEADER);
+    return e;
+}
+
+/* A frame as a bridge rewrites it: the header and, in an unsecured frame of type 0, the beacon behind it. */
+static struct expected expect_frame(const byte *s, size_t n)
+{
+    struct expected e = expect_header(s, n);
+
+    if (e.read >= REFUSED || (s[0] & 0x0f) != 0)
+        return e;
+    struct expected beacon = expect_beacon(s + e.read, n - e.read);
+    if (beacon.read >= REFUSED)
+        return beacon;
+    for (size_t i = 0; i < beacon.count; i++)
+        list(&e, e.read + beacon.listed[i].at, beacon.listed[i].bits);
+    e.read += beacon.read;
     return e;
 }
 
@@ -277,10 +296,11 @@ static size_t expect_rewrite(const struct expected *e, size_t room)
 
 /* ---- one trial */
 
-enum entry { READ_HEADER, READ_BEACON, REWRITE_HEADER, REWRITE_BEACON };
+/* The four entries, and the two that rewrite one behind the other, as a bridge calls them. */
+enum entry { READ_HEADER, READ_BEACON, REWRITE_HEADER, REWRITE_BEACON, REWRITE_FRAME, ENTRIES };
 
-static const char *const names[] = {"read_header", "read_beacon", "rewrite_header", "rewrite_beacon"};
-static unsigned long seen[4][9], calls;
+static const char *const names[] = {"read_header", "read_beacon", "rewrite_header", "rewrite_beacon", "rewrite_header, and rewrite_beacon behind it"};
+static unsigned long seen[ENTRIES][9], calls;
 
 static uint64_t state = 0x9e3779b97f4a7c15u;
 
@@ -321,13 +341,81 @@ static void try_read(enum entry entry, const byte *in, size_t n, size_t expected
     answered(entry, entry == READ_HEADER ? knobtangle_read_header(in, n) : knobtangle_read_beacon(in, n), expected);
 }
 
+/* Header and beacon are read before one of them is written, and refused in that order. Asks for room that is enough. */
+static size_t rewrite_frame(const byte *in, size_t n, byte *out, size_t room)
+{
+    size_t header = knobtangle_read_header(in, n), beacon = 0, written;
+
+    if (knobtangle_refused(header))
+        return header;
+    if ((in[0] & 0x0f) == 0)
+        beacon = knobtangle_read_beacon(in + header, n - header);
+    if (knobtangle_refused(beacon))
+        return beacon;
+    written = knobtangle_rewrite_header(in, n, out, room);
+    if (knobtangle_refused(written) || beacon == 0)
+        return written;
+    return written + knobtangle_rewrite_beacon(in + header, n - header, out + header, room - header);
+}
+
 static size_t rewrite(enum entry entry, const byte *in, size_t n, byte *out, size_t room)
 {
-    return entry == REWRITE_HEADER ? knobtangle_rewrite_header(in, n, out, room) : knobtangle_rewrite_beacon(in, n, out, room);
+    switch (entry) {
+    case REWRITE_HEADER:
+        return knobtangle_rewrite_header(in, n, out, room);
+    case REWRITE_BEACON:
+        return knobtangle_rewrite_beacon(in, n, out, room);
+    default:
+        return rewrite_frame(in, n, out, room);
+    }
+}
+
+static struct expected expect(enum entry entry, const byte *s, size_t n)
+{
+    return entry == REWRITE_HEADER ? expect_header(s, n) : entry == REWRITE_BEACON ? expect_beacon(s, n) : expect_frame(s, n);
+}
+
+/* Clears the listed bits. Returns how many of the bytes had one set: 0 where rewriting alters nothing. */
+static size_t clear_listed(byte *bytes, const struct expected *e)
+{
+    size_t altered = 0;
+
+    for (size_t i = 0; i < e->count; i++) {
+        byte *at = bytes + e->listed[i].at;
+        altered += (*at & e->listed[i].bits) != 0;
+        *at &= (byte)~e->listed[i].bits;
+    }
+    return altered;
+}
+
+static void fail_bits(const byte *out, const byte *expected, size_t n, const char *why)
+{
+    tell("gateway: rewritten");
+    tell_hex(out, n);
+    tell("gateway: expected ");
+    tell_hex(expected, n);
+    fail(why);
+}
+
+/* Holds rewritten bytes to the list of their input: each listed bit that is set goes from 1 to 0, every other bit stays, and the bytes are equal
+   exactly where no listed bit is set. */
+static void hold_to_list(const byte *in, const byte *out, const struct expected *e)
+{
+    byte expected[MOST];
+
+    memcpy(expected, in, e->read);
+    size_t altered = clear_listed(expected, e);
+    if ((altered == 0) != (memcmp(in, out, e->read) == 0))
+        fail_bits(out, expected, e->read, altered == 0 ? "no listed bit is set, and the bytes differ" : "listed bits are set, and the bytes are equal");
+    for (size_t i = 0; i < e->count; i++)
+        if ((out[e->listed[i].at] & e->listed[i].bits) != 0)
+            fail_bits(out, expected, e->read, "a listed bit is kept");
+    if (memcmp(out, expected, e->read) != 0)
+        fail_bits(out, expected, e->read, "a bit is altered that is not listed");
 }
 
 /* The output lies, by turns, at the end of its area, at the beginning, and inside at any place. */
-static void try_rewrite(enum entry entry, const byte *in, size_t n, size_t room, size_t expected, const byte *bytes)
+static void try_rewrite(enum entry entry, const byte *in, size_t n, size_t room, const struct expected *e)
 {
     byte *out, *from, *to;
 
@@ -357,19 +445,17 @@ static void try_rewrite(enum entry entry, const byte *in, size_t n, size_t room,
         fail("bytes behind out are altered");
     if (written <= room && memcmp(out + written, kept + written, room - written) != 0)
         fail(written == 0 ? "it refused, and out is altered" : "bytes of out behind the length are altered");
-    answered(entry, got, expected);
+    answered(entry, got, expect_rewrite(e, room));
     if (written == 0)
         return;
-    if (memcmp(out, bytes, written) != 0) {
-        tell("gateway: rewritten");
-        tell_hex(out, written);
-        tell("gateway: expected ");
-        tell_hex(bytes, written);
-        fail("other bits differ than those listed");
-    }
+    hold_to_list(in, out, e);
     byte *again = second_out + AREA - written;
     if (rewrite(entry, out, written, again, written) != written || memcmp(again, out, written) != 0)
         fail("rewriting a second time alters what was rewritten");
+    struct expected second = expect(entry, out, written);
+    if (second.read != written)
+        fail("what was rewritten is read as another length");
+    hold_to_list(out, again, &second);
 }
 
 /* Places the input, by turns, at the end of its area and at the beginning. */
@@ -383,16 +469,17 @@ static const byte *place(const byte *bytes, size_t n)
     return input_area + at;
 }
 
-/* All four entries on one input. */
+/* All four entries on one input, and the two that rewrite on the whole frame, with room that is just enough or plenty. */
 static void try_all(const byte *bytes, size_t n, size_t header_room, size_t beacon_room)
 {
     const byte *in = place(bytes, n);
-    struct expected header = expect_header(bytes, n), beacon = expect_beacon(bytes, n);
+    struct expected header = expect_header(bytes, n), beacon = expect_beacon(bytes, n), frame = expect_frame(bytes, n);
 
     try_read(READ_HEADER, in, n, header.read);
     try_read(READ_BEACON, in, n, beacon.read);
-    try_rewrite(REWRITE_HEADER, in, n, header_room, expect_rewrite(&header, header_room), header.bytes);
-    try_rewrite(REWRITE_BEACON, in, n, beacon_room, expect_rewrite(&beacon, beacon_room), beacon.bytes);
+    try_rewrite(REWRITE_HEADER, in, n, header_room, &header);
+    try_rewrite(REWRITE_BEACON, in, n, beacon_room, &beacon);
+    try_rewrite(REWRITE_FRAME, in, n, any(2) == 0 && frame.read < REFUSED ? frame.read : (size_t)MOST, &frame);
 }
 
 /* ---- the rows of document 01 */
@@ -459,11 +546,19 @@ static size_t try_rows(void)
     for (size_t i = 0; i < count; i++) {
         const struct row *row = rows + i;
         byte bytes[MOST], output[MOST];
-        size_t n = from_hex(bytes, row->input);
-        from_hex(output, row->output);
+        size_t n = from_hex(bytes, row->input), written = from_hex(output, row->output);
+        enum entry entry = row->beacon ? REWRITE_BEACON : REWRITE_HEADER;
         const byte *in = place(bytes, n);
+        struct expected e = expect(entry, bytes, n);
+        trial.entry = row->name;
+        if (e.read != row->read || expect_rewrite(&e, MOST) != row->rewritten)
+            fail("the test expects another answer than the row has");
+        clear_listed(bytes, &e);
+        if (memcmp(bytes, output, written) != 0)
+            fail("the test lists other bits than the row loses");
         try_read(row->beacon ? READ_BEACON : READ_HEADER, in, n, row->read);
-        try_rewrite(row->beacon ? REWRITE_BEACON : REWRITE_HEADER, in, n, MOST, row->rewritten, output);
+        try_rewrite(entry, in, n, MOST, &e);
+        from_hex(bytes, row->input);
         bytes[n] = 0x57;
         try_lengths(bytes, n + 1);
     }
@@ -592,6 +687,15 @@ static size_t any_header(byte *bytes)
     return n < REFUSED ? n : 3;
 }
 
+/* A header of type 0 that is not secured, in most of its bits any, and a beacon behind it; the length of both. */
+static size_t any_beacon_frame(byte *bytes)
+{
+    any_header(bytes);
+    bytes[0] &= 0xf0;
+    size_t n = expect_header(bytes, MOST).read;
+    return n < REFUSED ? n + expect_beacon(bytes + n, MOST - n).read : 3;
+}
+
 /* A few bits changed, a byte lost or one doubled. */
 static size_t damaged(byte *bytes, size_t n)
 {
@@ -617,7 +721,7 @@ static size_t any_frame(byte *bytes)
 {
     size_t n;
 
-    switch (any(8)) {
+    switch (any(10)) {
     case 0:
         any_bytes(bytes, MOST);
         return any(48);
@@ -635,9 +739,14 @@ static size_t any_frame(byte *bytes)
         any_bytes(bytes, MOST);
         n = expect_beacon(bytes, MOST).read + any(3);
         return any(3) == 0 ? damaged(bytes, n) : n;
-    default:
+    case 7:
         any_bytes(bytes, MOST);
         return any(expect_beacon(bytes, MOST).read + 1);
+    case 8:
+        n = any_beacon_frame(bytes) + any(3);
+        return any(3) == 0 ? damaged(bytes, n) : n;
+    default:
+        return any(any_beacon_frame(bytes) + 1);
     }
 }
 
@@ -676,9 +785,9 @@ static void try_frames(unsigned long count)
 /* Whether the random frames met every answer that there is. */
 static void check_seen(void)
 {
-    static const unsigned answers[] = {0x3f, 0x03, 0x7f, 0x03};
+    static const unsigned answers[] = {0x3f, 0x03, 0x7f, 0x03, 0x7f};
 
-    for (int entry = 0; entry < 4; entry++)
+    for (int entry = 0; entry < ENTRIES; entry++)
         for (int number = 0; number <= 8; number++)
             if ((seen[entry][number] >= ENOUGH) != (answers[entry] >> number & 1)) {
                 fprintf(stderr, "gateway: %s answered %d %lu times: too rare, or not to be\n", names[entry], number, seen[entry][number]);
@@ -718,7 +827,8 @@ int main(int count, char **words)
     if (frames >= 1ul << 16)
         check_seen();
     printf("gateway: %zu rows, %lu calls at chosen lengths, %lu random frames through 4 entries: "
-           "headers %lu read, %lu refused, beacons %lu read, %lu refused; all as expected\n",
-        row_count, before, frames, seen[READ_HEADER][0], frames - seen[READ_HEADER][0], seen[READ_BEACON][0], frames - seen[READ_BEACON][0]);
+           "headers %lu read, %lu refused, beacons %lu read, %lu refused, whole frames %lu rewritten, %lu refused; all as expected\n",
+        row_count, before, frames, seen[READ_HEADER][0], frames - seen[READ_HEADER][0], seen[READ_BEACON][0], frames - seen[READ_BEACON][0],
+        seen[REWRITE_FRAME][0], frames - seen[REWRITE_FRAME][0]);
     return 0;
 }
