@@ -193,17 +193,17 @@ fn note_beacon(
 pub fn altered_bits(frame: &[u8]) -> Alterations
     ensures { λ r. ⌜ r ≡ alterations (now (frame .entry)) ⌝ }
 {
-    let mut places = [0usize; 6];
-    let mut masks = [0u8; 6];
     let outcome = rewriting(frame);
     if outcome.number != 0 {
         return Alterations {
             outcome,
             count: 0,
-            places,
-            masks,
+            places: [0usize; 6],
+            masks: [0u8; 6],
         };
     }
+    let mut places = [0usize; 6];
+    let mut masks = [0u8; 6];
     let w = u16_at(frame, 0) as usize;
     let header = note_header(frame, w, &mut places, &mut masks);
     if !holds_beacon(w) {
