@@ -8,7 +8,7 @@ use mathlib.Core.List.{List, [], _∷_, _++_, append-nil, append-assoc}
 use mathlib.Core.Path.{_≡_, refl, sym, ap, _∙_}
 use lib.Dec.{eqb, ltb}
 use lib.ListN.{length, take, drop, length-append, length-drop}
-use lib.Seq.{take-at, drop-at, drop-drop}
+use lib.Seq.{take-at, drop-at, drop-drop, length-take-le}
 use Rattle.octets.specs.declared.Outcome.{Outcome}
 use Rattle.octets.specs.{Bits.bits, Bits.bit, Buffer.laid, Buffer.after, Little.number, Little.Bytes, Outcome.accepted}
 use Rattle.octets.proofs.Buffer.{laid-all}
@@ -145,33 +145,40 @@ module _ (s : List ℕ) (m : ℕ) (out : List ℕ) (y : Bytes s) (a : Accepted s
       (λ off. let e = simp off at (a .long) in simp off (alone-left e))
 
   -- the C entries
-  header-entry : headerEntry s out ≡ half
-  header-entry =
-      let told = rewrite-accepts s (length out) n (record { read = a .read; source = a .source; fits = omega (arith, front) }) in
-      ap (λ (o : Outcome). after o out 0 (headerCleared s)) told ∙ laid-all out (headerCleared s) n long (omega (arith, front))
+  header-entry : (l : List ℕ) → n ≤ length l → headerEntry s l ≡ headerCleared s ++ drop n l
+  header-entry l fits =
+      let told = rewrite-accepts s (length l) n (record { read = a .read; source = a .source; fits = fits }) in
+      ap (λ (o : Outcome). after o l 0 (headerCleared s)) told ∙ laid-all l (headerCleared s) n long fits
 
-  beacon-entry : (on : holdsBeacon w ≡ true) → m ≡ n + k →
-      take n half ++ beaconEntry (drop n s) (drop n half) ≡ (headerCleared s ++ beaconCleared s n) ++ drop m out
+  beacon-entry : (on : holdsBeacon w ≡ true) → m ≡ n + k → beaconEntry (drop n s) (drop n out) ≡ beaconCleared s n ++ drop m out
   beacon-entry on e =
       let there = all-found s n (beacon-read s n (a .beacon on) .1) in
-      let rest : length (drop n half) ≡ length half - n = length-drop n half in
+      let rest : length (drop n out) ≡ length out - n = length-drop n out in
       let inside : length (drop n s) ≡ length s - n = length-drop n s in
       let answer : accepted k ≡ readBeacon (drop n s) 0 .outcome =
       all-there (drop n s) 0 k (sym (length-rest s n)) (omega (arith, there, inside)) in
-      let told : accepted k ≡ rewriteBeacon (drop n s) (length (drop n half)) =
-      beacon-fits (drop n s) (length (drop n half)) (accepted k) answer refl (omega (arith, rest, half-long, room, e)) in
+      let told : accepted k ≡ rewriteBeacon (drop n s) (length (drop n out)) =
+      beacon-fits (drop n s) (length (drop n out)) (accepted k) answer refl (omega (arith, rest, room, e)) in
       let size : length (beaconCleared s n) ≡ k =
       BeaconTrip.round-trip s n x k half n y (beacon-answer on) (omega (arith, half-long, room, e)) .long in
-      ap (λ (l : List ℕ). take n half ++ l)
-      (ap (λ (o : Outcome). after o (drop n half) 0 (beaconCleared (drop n s) 0)) (sym told)
-      ∙ ap (laid (drop n half) 0) (cleared-rest s n)
-      ∙ laid-all (drop n half) (beaconCleared s n) k size (omega (arith, rest, half-long, room, e))
-      ∙ ap (λ (l : List ℕ). beaconCleared s n ++ l) (drop-drop k n half))
-      ∙ both-left on e
+      ap (λ (o : Outcome). after o (drop n out) 0 (beaconCleared (drop n s) 0)) (sym told)
+      ∙ ap (laid (drop n out) 0) (cleared-rest s n)
+      ∙ laid-all (drop n out) (beaconCleared s n) k size (omega (arith, rest, room, e))
+      ∙ ap (λ (l : List ℕ). beaconCleared s n ++ l) (drop-drop k n out ∙ ap (λ (j : ℕ). drop j out) (sym e))
+
+  both-entries : (on : holdsBeacon w ≡ true) → m ≡ n + k →
+      headerEntry s (take n out ++ beaconEntry (drop n s) (drop n out)) ≡ (headerCleared s ++ beaconCleared s n) ++ drop m out
+  both-entries on e =
+      let before : length (take n out) ≡ n = length-take-le n out (omega (arith, front, room)) in
+      let behind = beaconEntry (drop n s) (drop n out) in
+      header-entry (take n out ++ behind) (omega (arith, before, length-append (take n out) behind))
+      ∙ ap (λ (l : List ℕ). headerCleared s ++ l) (drop-at (take n out) behind n before ∙ beacon-entry on e)
+      ∙ sym (append-assoc (headerCleared s) (beaconCleared s n) (drop m out))
 
   pub entries-left : driven s out ≡ frameCleared s ++ drop m out
   entries-left =
-      ap (λ (l : List ℕ). cond (holdsBeacon w) (take n l ++ beaconEntry (drop n s) (drop n l)) l) header-entry
-      ∙ cases (holds? (holdsBeacon w))
-      (λ on. let e = simp on at (a .long) in simp on (beacon-entry on e))
-      (λ off. let e = simp off at (a .long) in simp off (alone-left e))
+      cases (holds? (holdsBeacon w))
+      (λ on. let e = simp on at (a .long) in simp on (both-entries on e))
+      (λ off.
+      let e = simp off at (a .long) in
+      simp off (header-entry out (omega (arith, front, room)) ∙ alone-left e))

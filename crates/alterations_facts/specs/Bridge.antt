@@ -30,16 +30,15 @@ bridgeAfter s (Refused r) out = out
 bridgeAfter s (Read h n) out =
     cond (unsecuredBeacon h) (beaconAfter (readBeacon s n .beacon) (headerAfter h out 0) n) (headerAfter h out 0)
 
--- what a driver in C leaves there that calls `knobtangle_rewrite_header` and, for a beacon, `knobtangle_rewrite_beacon`
--- with the rest of the frame and the rest of the buffer
-abbrev pub headerEntry : List ℕ → List ℕ → List ℕ
-headerEntry s out = after (rewriteHeader s (length out)) out 0 (headerCleared s)
-
+-- what a driver in C leaves there that calls `knobtangle_rewrite_beacon`, for a beacon, with the frame and the buffer
+-- behind the header, and then `knobtangle_rewrite_header` (c/README.md)
 abbrev pub beaconEntry : List ℕ → List ℕ → List ℕ
 beaconEntry s out = after (rewriteBeacon s (length out)) out 0 (beaconCleared s 0)
+
+abbrev pub headerEntry : List ℕ → List ℕ → List ℕ
+headerEntry s out = after (rewriteHeader s (length out)) out 0 (headerCleared s)
 
 abbrev pub driven : List ℕ → List ℕ → List ℕ
 driven s out =
     let n = headerEnd s (number s 0 2) in
-    let first = headerEntry s out in
-    cond (holdsBeacon (number s 0 2)) (take n first ++ beaconEntry (drop n s) (drop n first)) first
+    headerEntry s (cond (holdsBeacon (number s 0 2)) (take n out ++ beaconEntry (drop n s) (drop n out)) out)
