@@ -4,13 +4,12 @@
 use Prim.Native.Nat.{ℕ, _+_, _≤_}
 use native.Mathlib.Omega.{arith}
 use mathlib.Core.Bool.{Bool, cond, _&&_}
-use mathlib.Core.List.{List, []}
-use mathlib.Core.Path.{_≡_, sym, ap}
+use mathlib.Core.List.{List}
+use mathlib.Core.Path.{ap}
 use borrow.Author.Tests.{eqb-true, eqb-false}
-use lib.Dec.{eqb, ltb}
+use lib.Dec.{eqb}
 use lib.ListN.{length}
-use Rattle.octets.specs.declared.Outcome.{Outcome}
-use Rattle.octets.specs.{Little.number, Outcome.accepted}
+use Rattle.octets.specs.{Little.number}
 use Rattle.octets.proofs.Cases.{cases, holds?}
 use Rattle.header_bytes.specs.{Layout.headerEnd, Reading.measured, Rewriting.sourceless}
 use Rattle.header_bytes.proofs.Accepted.{measured-most}
@@ -20,7 +19,7 @@ use Rattle.beacon_facts.proofs.Trip.{beacon-most}
 use Rattle.beacon_measure.proofs.BeaconLength.{outcome-most}
 use Rattle.alterations.specs.Listed.{holdsBeacon, listed}
 use Rattle.alterations.specs.Rewriting.{rewriteFrame}
-use Rattle.alterations.specs.Altered.{alteredIn, altered}
+use Rattle.alterations.specs.Altered.{altered}
 use Rattle.alterations.proofs.Places.{Below, below-altered, altered-long, listed-few, listed-near}
 use Rattle.alterations.proofs.Told.{altered-none, altered-some}
 

@@ -1,20 +1,18 @@
 -- Two frames that are alike, in what tells where their parts lie, have the same bits listed and are rewritten with the same answer.
 -- Assumes nothing.
 use Prim.Native.Nat.{ℕ, _+_}
-use mathlib.Core.Bool.{Bool, true, false, cond, not, _&&_}
+use mathlib.Core.Bool.{true, cond, not, _&&_}
 use mathlib.Core.List.{List, [], _∷_, _++_}
 use mathlib.Core.Path.{_≡_, sym, ap, _∙_}
 use lib.Dec.{eqb}
-use Rattle.octets.specs.declared.Outcome.{Outcome}
 use Rattle.octets.specs.{Bits.bits, Bits.bit, Little.number, Outcome.accepted}
 use Rattle.octets.proofs.Cases.{cases, holds?}
 use Rattle.header_bytes.specs.Layout.{ownDestination, ownSource, panSize, addressSize, sourceEnd, headerEnd}
-use Rattle.header_bytes.specs.{Reading.measured, Rewriting.sourceless}
+use Rattle.header_bytes.specs.{Reading.measured}
 use Rattle.header_bytes.proofs.Accepted.{read-accepted}
 use Rattle.time_slots.specs.TimeSlots.{slotsLength, slotCountIn, timeSlotsIn}
-use Rattle.beacon.specs.declared.Beacon.{Beacon}
 use Rattle.beacon.specs.declared.BeaconRead.{BeaconRead}
-use Rattle.beacon.specs.Beacon.{pendingPlace, beaconIn, beaconLengthIn, readBeacon}
+use Rattle.beacon.specs.Beacon.{beaconIn, beaconLengthIn, readBeacon}
 use Rattle.beacon_facts.proofs.Beacon.{beacon-read}
 use Rattle.alterations.specs.Listed.{headerBits, directionBits, beaconBits, holdsBeacon, listed}
 use Rattle.alterations.proofs.Answers.{Accepted}

@@ -1,20 +1,19 @@
 -- What a bridge leaves in a buffer, by the records and by the C entries: the bytes of the frame with the listed bits cleared.
 -- Assumes nothing.
 use Prim.Native.Nat.{ℕ, _+_, _-_, _≤_}
-use native.Mathlib.Nat.{zero-add, add-zero}
+use native.Mathlib.Nat.{zero-add}
 use native.Mathlib.Omega.{arith}
-use mathlib.Core.Bool.{Bool, true, false, cond, not, _&&_}
-use mathlib.Core.List.{List, [], _∷_, _++_, append-nil, append-assoc}
+use mathlib.Core.Bool.{Bool, true, cond}
+use mathlib.Core.List.{List, [], _++_, append-nil, append-assoc}
 use mathlib.Core.Path.{_≡_, refl, sym, ap, _∙_}
-use lib.Dec.{eqb, ltb}
 use lib.ListN.{length, take, drop, length-append, length-drop}
 use lib.Seq.{take-at, drop-at, drop-drop, length-take-le}
 use Rattle.octets.specs.declared.Outcome.{Outcome}
-use Rattle.octets.specs.{Bits.bits, Bits.bit, Buffer.laid, Buffer.after, Little.number, Little.Bytes, Outcome.accepted}
+use Rattle.octets.specs.{Bits.bits, Buffer.laid, Buffer.after, Little.number, Little.Bytes, Outcome.accepted}
 use Rattle.octets.proofs.Buffer.{laid-all}
 use Rattle.octets.proofs.Cases.{cases, holds?}
-use Rattle.header_bytes.specs.{Layout.headerEnd, Reading.measured, Cleared.headerCleared, Rewriting.rewriteHeader, Rewriting.sourceless}
-use Rattle.header_bytes.proofs.{Accepted.read-accepted, Cleared.header-cleared-length, Rewrites.rewrite-accepts}
+use Rattle.header_bytes.specs.{Layout.headerEnd, Cleared.headerCleared}
+use Rattle.header_bytes.proofs.{Cleared.header-cleared-length, Rewrites.rewrite-accepts}
 use Rattle.header.specs.declared.Header.{Header}
 use Rattle.header.specs.declared.HeaderRead.{HeaderRead}
 use Rattle.header.specs.declared.HeaderRead.the-variants.{Read}
@@ -22,11 +21,11 @@ use Rattle.header.specs.Read.{headerIn, readHeader}
 use Rattle.header_facts.specs.RoundTrip.{headerAfter}
 use Rattle.header_facts.proofs.Trip as HeaderTrip
 use Rattle.time_slots.specs.TimeSlots.{slotsLength, slotCountIn, timeSlotsLengthIn}
-use Rattle.pending.specs.Pending.{addressesLength, pendingLengthIn}
+use Rattle.pending.specs.Pending.{addressesLength}
 use Rattle.beacon.specs.declared.Beacon.{Beacon}
 use Rattle.beacon.specs.declared.BeaconRead.{BeaconRead}
 use Rattle.beacon.specs.Beacon.{pendingPlace, beaconLengthIn, beaconAccepted, readBeacon}
-use Rattle.beacon_facts.specs.Cleared.{part, clearDirections, beaconCleared}
+use Rattle.beacon_facts.specs.Cleared.{beaconCleared}
 use Rattle.beacon_facts.specs.RoundTrip.{beaconAfter}
 use Rattle.beacon_facts.proofs.Beacon.{beacon-read, all-found}
 use Rattle.beacon_facts.proofs.Trip as BeaconTrip

@@ -2,7 +2,7 @@
 -- Assumes nothing.
 use Prim.Native.Nat.{ℕ, zero, suc, _+_, _-_, _≤_, _<_}
 use native.Mathlib.Omega.{arith}
-use mathlib.Core.Bool.{Bool, true, false, cond, not, _||_, _&&_}
+use mathlib.Core.Bool.{Bool, false, not, _||_, _&&_}
 use mathlib.Core.List.{List, [], _∷_, _++_}
 use mathlib.Core.Path.{_≡_, refl, sym, ap, _∙_}
 use borrow.Author.Tests.{eqb-true, eqb-false, ltb-true, ltb-false, eq-eqb, ne-eqb}
@@ -11,13 +11,13 @@ use lib.ListN.{length, getD, set, length-append, List·getD-append}
 use lib.Seq.{getD-set-same, getD-set-other, getD-append-add}
 use Rattle.octets.specs.Bits.{bit, clear, clearAt}
 use Rattle.octets.specs.Little.{Bytes}
-use Rattle.octets.proofs.Bits.{bits-part, clear-length}
+use Rattle.octets.proofs.Bits.{clear-length}
 use Rattle.octets.proofs.Cases.{cases, holds?}
 use Rattle.octets.proofs.Little.{bytes-at, bytes-append}
 use Rattle.alterations.proofs.Places.{Below}
 use Rattle.alterations_facts.specs.Named.{bitAt, among, isListed}
 use Rattle.alterations_facts.proofs.Truth.{and-true, or-false, or-assoc, and-neither}
-use Rattle.alterations_facts.proofs.Tables.{clears, cleared-bit, zero-bit}
+use Rattle.alterations_facts.proofs.Tables.{clears, cleared-bit}
 
 pub record Clears (k : List (ℕ × List ℕ)) (l m : List ℕ) : Type 0 where
   pub long : length m ≡ length l

@@ -5,7 +5,7 @@ use native.Mathlib.Nat.{add-zero}
 use native.Mathlib.Omega.{arith}
 use mathlib.Core.Bool.{Bool, true, false, cond, _||_, _&&_}
 use mathlib.Core.List.{List, [], _∷_, _++_, append-nil}
-use mathlib.Core.Path.{_≡_, refl, sym, ap, _∙_}
+use mathlib.Core.Path.{_≡_, refl, ap}
 use lib.Dec.{eqb}
 use lib.ListN.{length, take, drop, length-drop}
 use lib.Seq.{take-add, length-take-le}
@@ -15,7 +15,7 @@ use Rattle.octets.proofs.Little.{bytes-take, bytes-drop}
 use Rattle.header_bytes.specs.{Layout.sourceEnd, Layout.headerEnd, Cleared.clearedBy, Cleared.headerCleared}
 use Rattle.header_bytes.proofs.{Accepted.read-accepted, Cleared.header-cleared}
 use Rattle.time_slots.specs.TimeSlots.{slotCountIn, timeSlotsLengthIn}
-use Rattle.beacon.specs.Beacon.{pendingPlace, beaconLengthIn, readBeacon}
+use Rattle.beacon.specs.Beacon.{beaconLengthIn}
 use Rattle.beacon_facts.specs.Cleared.{part, clearDirections, beaconCleared}
 use Rattle.beacon_facts.proofs.Beacon.{beacon-read, all-found}
 use Rattle.beacon_measure.proofs.BeaconLength.{beacon-least}
@@ -23,7 +23,6 @@ use Rattle.alterations.specs.Listed.{headerBits, directionBits, beaconBits, hol
 use Rattle.alterations.specs.Rewriting.{frameCleared}
 use Rattle.alterations.proofs.Answers.{Accepted}
 use Rattle.alterations.proofs.Places.{Below, below-append, below-cond, header-below, beacon-below}
-use Rattle.alterations_facts.specs.Named.{among, isListed}
 use Rattle.alterations_facts.proofs.Tables.{all, directions-clear}
 use Rattle.alterations_facts.proofs.Clearing.{Clears, clears-none, clears-at, clears-on, clears-as, shifted, clears-beside}
 

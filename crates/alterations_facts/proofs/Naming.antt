@@ -2,12 +2,12 @@
 -- Assumes nothing.
 use Prim.Native.Nat.{ℕ, zero, suc, _+_, _<_}
 use native.Mathlib.Omega.{arith}
-use mathlib.Core.Bool.{Bool, true, false, true≢false, cond, _||_, _&&_}
+use mathlib.Core.Bool.{Bool, true, false, cond, _||_, _&&_}
 use mathlib.Core.List.{List, [], _∷_, _++_}
 use mathlib.Core.Path.{_≡_, refl, sym, ap, _∙_}
-use borrow.Author.Tests.{eqb-true, eqb-false, eq-eqb, ne-eqb}
-use lib.Dec.{T, eqb}
-use lib.ListN.{getD, drop}
+use borrow.Author.Tests.{eqb-true, eqb-false, eq-eqb}
+use lib.Dec.{eqb}
+use lib.ListN.{getD}
 use Rattle.octets.specs.{Bits.bit, Little.number, Little.Bytes}
 use Rattle.octets.proofs.Cases.{cases, holds?, neither}
 use Rattle.octets.proofs.Little.{bytes-at}
@@ -17,7 +17,7 @@ use Rattle.beacon.specs.Beacon.{pendingPlace}
 use Rattle.alterations.specs.Listed.{headerBits, directionBits, beaconBits, holdsBeacon, listed}
 use Rattle.alterations.specs.Altered.{mask, alteredAt, alteredIn}
 use Rattle.alterations_facts.specs.Named.{bitAt, named, among, isListed}
-use Rattle.alterations_facts.proofs.Truth.{and-false, or-false, or-assoc, and-or, and-left, and-right}
+use Rattle.alterations_facts.proofs.Truth.{and-false, or-false, or-assoc, and-or}
 use Rattle.alterations_facts.proofs.Tables.{Listable, listable, directions-listable, by-bits, zero-bit}
 
 -- each byte's listed bits can be told by a mask

@@ -2,9 +2,8 @@
 -- Assumes nothing.
 use Prim.Native.Nat.{ℕ, zero, suc, _+_, _≤_, _<_}
 use native.Mathlib.Omega.{arith}
-use mathlib.Core.Bool.{true, false}
 use mathlib.Core.List.{List, [], _∷_, _++_}
-use mathlib.Core.Path.{_≡_, sym, ap, _∙_, subst}
+use mathlib.Core.Path.{sym, ap, _∙_, subst}
 use lib.Dec.{eqb}
 use lib.ListN.{getD}
 use Rattle.octets.specs.{Bits.bit, Little.number}
@@ -12,8 +11,8 @@ use Rattle.octets.proofs.Cases.{cases, holds?}
 use Rattle.header_bytes.specs.Layout.{sourceEnd}
 use Rattle.header_bytes.proofs.Sizes.{source-end}
 use Rattle.time_slots.specs.TimeSlots.{slotsLength, slotCountIn}
-use Rattle.alterations.specs.Listed.{headerBits, directionBits, beaconBits, holdsBeacon, listed}
-use Rattle.alterations.specs.Altered.{mask, alteredAt, alteredIn}
+use Rattle.alterations.specs.Listed.{directionBits, beaconBits, holdsBeacon, listed}
+use Rattle.alterations.specs.Altered.{mask, alteredIn}
 use Rattle.alterations.proofs.Lists.{secured-bits, unsecured-bits, beacon-unsecured, listed-alone, listed-beacon}
 use Rattle.alterations_facts.specs.Named.{Above, Rising}
 

@@ -1,14 +1,12 @@
 -- The frame control by the record that was read, and what the records of a frame are written as.
 -- Assumes nothing.
-use Prim.Native.Nat.{ℕ, _+_, _-_, _≤_}
+use Prim.Native.Nat.{ℕ, _-_}
 use native.Mathlib.Omega.{arith}
 use mathlib.Core.Bool.{Bool, true, false, cond, not, _&&_}
-use mathlib.Core.List.{List, [], _∷_, _++_}
-use mathlib.Core.Path.{_≡_, refl, sym, ap, _∙_}
+use mathlib.Core.List.{List}
+use mathlib.Core.Path.{_≡_, refl, sym, _∙_}
 use lib.Dec.{eqb}
-use lib.ListN.{length}
-use Rattle.octets.specs.declared.Outcome.{Outcome}
-use Rattle.octets.specs.{Bits.bits, Bits.bit, Little.number, Little.Bytes, Outcome.accepted}
+use Rattle.octets.specs.{Bits.bits, Bits.bit, Little.number}
 use Rattle.header_bytes.specs.{Layout.headerEnd, Reading.measured}
 use Rattle.header_bytes.proofs.Passed.{Passed, measured-passed}
 use Rattle.frame_control.specs.{Types.typeBits, Modes.modeBits}

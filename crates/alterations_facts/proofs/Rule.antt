@@ -1,6 +1,6 @@
 -- The engineer's rule: what rewriting alters in a frame is what the list names.
 -- Assumes nothing.
-use Prim.Native.Nat.{ℕ, zero, suc, _+_, _≤_, _<_}
+use Prim.Native.Nat.{ℕ, suc, _+_, _≤_, _<_}
 use native.Mathlib.Omega.{arith}
 use mathlib.Core.Bool.{Bool, true, false, true≢false, cond, not, _&&_}
 use mathlib.Core.List.{List, [], _∷_, _++_, append-assoc}
@@ -13,14 +13,13 @@ use Rattle.octets.specs.declared.Outcome.{Outcome}
 use Rattle.octets.specs.{Bits.bit, Little.number, Little.Bytes, Outcome.accepted}
 use Rattle.octets.proofs.Cases.{cases, holds?}
 use Rattle.octets.proofs.Little.{bytes-take, bytes-drop, bytes-append}
-use Rattle.header_bytes.specs.{Layout.headerEnd, Reading.measured, Cleared.headerCleared}
+use Rattle.header_bytes.specs.{Layout.headerEnd, Cleared.headerCleared}
 use Rattle.header_bytes.proofs.Cleared.{header-cleared-length}
 use Rattle.header.specs.declared.Header.{Header}
-use Rattle.header.specs.declared.HeaderRead.{HeaderRead}
 use Rattle.header.specs.declared.HeaderRead.the-variants.{Read}
 use Rattle.header.specs.Read.{headerIn, readHeader, readOutcome}
 use Rattle.header.proofs.Apart.{read-measured}
-use Rattle.header_facts.specs.Rewritten.{lost, rewritten}
+use Rattle.header_facts.specs.Rewritten.{lost}
 use Rattle.header_facts.proofs.Trip.{header-rewritten, unread}
 use Rattle.beacon.specs.Beacon.{beaconLengthIn, readBeacon, beaconBytes}
 use Rattle.beacon_facts.specs.Cleared.{beaconCleared}
@@ -32,7 +31,7 @@ use Rattle.alterations.proofs.Answers.{Accepted, frame-accepted, frame-accepts}
 use Rattle.alterations.proofs.Places.{Below}
 use Rattle.alterations.proofs.Told.{altered-some}
 use Rattle.alterations_facts.specs.Named.{bitAt, named, isListed, Rising}
-use Rattle.alterations_facts.specs.Bridge.{bridgeAfter, driven}
+use Rattle.alterations_facts.specs.Bridge.{bridgeAfter}
 use Rattle.alterations_facts.specs.Altering.{Altering}
 use Rattle.alterations_facts.proofs.Truth.{and-true, and-without, and-left, and-right, and-never, and-false}
 use Rattle.alterations_facts.proofs.Tables.{by-bits}

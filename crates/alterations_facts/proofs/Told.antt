@@ -13,7 +13,7 @@ use Rattle.octets.proofs.Cases.{cases, holds?}
 use Rattle.header_bytes.specs.{Layout.headerEnd, Reading.measured, Rewriting.sourceless}
 use Rattle.header_bytes.proofs.{Accepted.read-accepted, Rewrites.rewrite-read}
 use Rattle.header.specs.declared.Header.{Header}
-use Rattle.header.specs.declared.HeaderRead.the-variants.{Read, Refused}
+use Rattle.header.specs.declared.HeaderRead.the-variants.{Read}
 use Rattle.header.specs.{Read.headerIn, Read.readHeader, Read.readOutcome, Write.writeHeader, Write.writtenOutcome}
 use Rattle.header.proofs.Apart.{read-measured, refused-read}
 use Rattle.header_facts.specs.Rewritten.{ownCounter}
@@ -21,7 +21,6 @@ use Rattle.header_facts.proofs.Records.{record-written}
 use Rattle.beacon.specs.declared.BeaconRead.{BeaconRead}
 use Rattle.beacon.specs.Beacon.{refuses, readBeacon, beaconLengthIn}
 use Rattle.beacon_facts.proofs.Beacon.{beacon-read}
-use Rattle.payload.specs.Frame.{unsecuredBeacon}
 use Rattle.alterations.specs.Listed.{holdsBeacon}
 use Rattle.alterations.specs.Rewriting.{rewriteFrame}
 use Rattle.alterations.proofs.Answers.{header-refused, header-long, there-beacon}

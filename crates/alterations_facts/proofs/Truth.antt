@@ -1,7 +1,7 @@
 -- Laws of tests put together.
 -- Assumes nothing.
 use mathlib.Core.Bool.{Bool, true, false, true≢false, not, _||_, _&&_}
-use mathlib.Core.Path.{_≡_, refl, sym, _∙_}
+use mathlib.Core.Path.{_≡_, refl, sym}
 use lib.Dec.{T}
 
 -- two tests agree, as a test that can be computed

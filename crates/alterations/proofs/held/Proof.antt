@@ -1,7 +1,6 @@
 -- `alterations::held` meets its contract: a shifted one is a power of two, and the bits are a part of the byte.
 -- Assumes nothing.
 use native.Mathlib.Omega.{arith}
-use mathlib.Core.Path.{_∙_}
 use borrow.Author.Needs.{needs}
 use Rattle.octets.proofs.Bits.{shifted-one, shifted-some, shifted-part}
 use Rattle.alterations.proofs.Masks.{held-mask}

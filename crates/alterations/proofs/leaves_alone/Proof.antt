@@ -3,7 +3,6 @@
 use mathlib.Core.Path.{sym, ap, _∙_}
 use borrow.Author.Needs.{needs}
 use borrow.Author.Tests.{eq-eqb, ne-eqb}
-use denote.Ref.{now}
 use Rattle.alterations.specs.declared.Alterations.{Alterations}
 use Rattle.alterations.specs.Altered.{alterations}
 use Rattle.alterations.proofs.leaves_alone.Statement.{statement}

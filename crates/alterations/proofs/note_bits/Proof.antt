@@ -1,6 +1,5 @@
 -- `alterations::note_bits` meets its contract: what is held of the byte is noted.
 -- Assumes nothing.
-use Prim.Native.Nat.{ℕ}
 use mathlib.Core.Path.{ap, _∙_}
 use borrow.Author.Needs.{needs}
 use denote.Ref.{now}

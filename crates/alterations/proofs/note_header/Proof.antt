@@ -3,7 +3,7 @@
 use Prim.Native.Nat.{ℕ}
 use native.Mathlib.Omega.{arith}
 use mathlib.Core.Bool.{true, false, true≢false}
-use mathlib.Core.List.{List, [], _∷_}
+use mathlib.Core.List.{[], _∷_}
 use mathlib.Core.Path.{_≡_, sym, ap, _∙_}
 use borrow.Author.Needs.{needs}
 use borrow.Author.Tests.{eq-eqb, ne-eqb}
@@ -19,11 +19,11 @@ use Rattle.alterations.proofs.note_header.Tie as tie
 secured : tie.Need-returns
 secured c =
     let control = c .before .before .before .before in
-    let place = c .before .before .before .before .before .before .before in
-    let test = c .before .before .before .before .before .before .before .before in
-    let high = c .before .before .before .before .before .before .before .before .before .before .before .before .before in
-    let low = c .before .before .before .before .before .before .before .before .before .before .before .before .before .before .before .before .before .before .before .before in
-    let a = c .before .before .before .before .before .before .before .before .before .before .before .before .before .before .before .before .before .before .before .before .before .before .before .before .before .before .args in
+    let place = control .before .before .before in
+    let test = place .before in
+    let high = test .before .before .before .before .before in
+    let low = high .before .before .before .before .before .before .before in
+    let a = low .before .before .before .before .before .before .args in
     let on : bit (a .w) 3 ≡ true = eq-eqb _ _ (test .if1 .taken) in
     let listed = ap (λ (at : ℕ). (0, 7 ∷ []) ∷ (1, 0 ∷ 1 ∷ []) ∷ (at, 5 ∷ 6 ∷ 7 ∷ []) ∷ []) (place .source-end .ensures .0)
     ∙ sym (secured-bits (a .w) on) in (
@@ -36,8 +36,8 @@ secured c =
 unsecured : tie.Need-returns-2
 unsecured c =
     let high = c .before .before .before .before .before in
-    let low = c .before .before .before .before .before .before .before .before .before .before .before .before in
-    let a = c .before .before .before .before .before .before .before .before .before .before .before .before .before .before .before .before .before .before .args in (
+    let low = high .before .before .before .before .before .before .before in
+    let a = low .before .before .before .before .before .before .args in (
       noted-as (ap (alteredIn (now (a .frame))) (sym (unsecured-bits (a .w) (ne-eqb _ _ (c .if1 .left)))))
           (noted-on (low .note-bits .ensures .0) (noted-on (high .note-bits2 .ensures .0) noted-none)),
       λ off. omega (arith, high .note-bits2 .ensures .1, low .note-bits .ensures .1),
