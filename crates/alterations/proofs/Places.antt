@@ -60,7 +60,10 @@ pub beacon-below : (n : ℕ) (s : List ℕ) (at : ℕ) → at + 3 < n → pendin
 beacon-below n s at h k =
     let count = slotCountIn s (at + 2) in (
       omega arith,
-      (omega arith, below-append n (directionBits count (at + 3)) ((pendingPlace s at, _) ∷ []) (directions-below n count (at + 3) h) (k, tt)),
+      (
+        omega arith,
+        below-append n (directionBits count (at + 3)) ((pendingPlace s at, _) ∷ []) (directions-below n count (at + 3) h) (k, tt),
+      ),
     )
 
 -- at most two of an unsecured header, at most three of any; at most four of a beacon

@@ -1,5 +1,5 @@
--- The bits that rewriting a given frame may alter, document 01, "Bits that writing clears": for each byte of the frame's
--- parts that has some, in the order of the bytes, its place and the numbers of those bits.
+-- The bits that rewriting a given frame may alter, document 01, "Bits that writing clears": for each byte of the
+-- frame's parts that has some, in the order of the bytes, its place and the numbers of those bits.
 use Rattle.octets.specs.Words.{ℕ, zero, suc, _+_, Bool, cond, not, _&&_, List, [], _∷_, _++_, eqb, drop}
 use Rattle.octets.specs.{Bits.bits, Bits.bit, Little.number}
 use Rattle.header_bytes.specs.Layout.{sourceEnd, headerEnd}

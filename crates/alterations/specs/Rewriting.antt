@@ -1,6 +1,6 @@
--- What rewriting a frame answers, as a bridge does it: its header is read and, where it holds a beacon, the beacon; then
--- both are written again, with the counter that was read and with room. Reading's refusals come before writing's, of
--- which 6 alone is left, "writing: compression set, either address missing".
+-- What rewriting a frame answers, as a bridge does it: its header is read and, where it holds a beacon, the beacon;
+-- then both are written again, with the counter that was read and with room. Reading's refusals come before writing's,
+-- of which 6 alone is left, "writing: compression set, either address missing".
 use Rattle.octets.specs.Words.{ℕ, _+_, cond, _&&_, List, [], _∷_, _++_}
 use Rattle.octets.specs.declared.{Outcome.Outcome}
 use Rattle.octets.specs.{Order.first, Outcome.accepted, Outcome.refused, Little.number}

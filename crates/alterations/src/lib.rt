@@ -17,8 +17,8 @@ use octets::u8_at;
 use octets::u16_at;
 
 // The answer of rewriting a frame, and the bits that it alters: of each of the first count entries, the place of a byte
-// in the frame and the mask of its bits that go from 1 to 0, in the order of the bytes. Entries behind these are 0; where
-// rewriting is refused, all are.
+// in the frame and the mask of its bits that go from 1 to 0, in the order of the bytes. Entries behind these are 0;
+// where rewriting is refused, all are.
 pub struct Alterations {
     pub outcome: Outcome,
     pub count: usize,
@@ -159,7 +159,8 @@ fn pending_mask(header: u8) -> u8
     header / 8 % 2 * 8 + header / 128 * 128
 }
 
-// Notes the bits of the beacon at a place of a frame, behind count entries. Asks for a place in the frame, and for room.
+// Notes the bits of the beacon at a place of a frame, behind count entries. Asks for a place where a header can end, and
+// for at most two entries in arrays of six.
 fn note_beacon(
     frame: &[u8],
     at: usize,

@@ -115,7 +115,9 @@ module _ {k j : List (ℕ × List ℕ)} {l m p q : List ℕ} (n : ℕ) (c : Clea
   before : (i b : ℕ) → b < 8 → i < n → bitAt (m ++ q) i b ≡ (bitAt (l ++ p) i b && not (isListed (k ++ shifted n j) i b))
   before i b small near =
       let told : isListed (k ++ shifted n j) i b ≡ isListed k i b =
-      listed-append k (shifted n j) i b ∙ ap (λ (x : Bool). isListed k i b || x) (shifted-before n j i b near) ∙ or-false (isListed k i b) in
+      listed-append k (shifted n j) i b
+      ∙ ap (λ (x : Bool). isListed k i b || x) (shifted-before n j i b near)
+      ∙ or-false (isListed k i b) in
       let long = c .long in
       ap (λ (x : ℕ). bit x b) (List·getD-append m q 0 i (omega (arith, long, e)))
       ∙ c .each i b small

@@ -27,13 +27,16 @@ use Rattle.alterations_facts.proofs.Tables.{all, directions-clear}
 use Rattle.alterations_facts.proofs.Clearing.{Clears, clears-none, clears-at, clears-on, clears-as, shifted, clears-beside}
 
 -- a header
-by-control : (w : ℕ) (l : List ℕ) → Bytes l → 1 < length l → (bit w 3 ≡ true → sourceEnd w < length l) → Clears (headerBits w) l (clearedBy w l)
+by-control : (w : ℕ) (l : List ℕ) → Bytes l → 1 < length l → (bit w 3 ≡ true → sourceEnd w < length l) →
+    Clears (headerBits w) l (clearedBy w l)
 by-control w l y two secured =
     let first = clears-at 0 7 1 (7 ∷ []) l tt y (omega arith) in
     let low = clearAt 0 7 1 l in
     let second = clears-on first (clears-at 1 0 2 (0 ∷ 1 ∷ []) low tt (first .bytes) (omega (arith, first .long))) in
     cases (holds? (bit w 3))
-    (λ t. simp t (clears-on second (clears-at (sourceEnd w) 5 3 (5 ∷ 6 ∷ 7 ∷ []) (clearAt 1 0 2 low) tt (second .bytes) (omega (arith, second .long, secured t)))))
+    (λ t.
+    let third = clears-at (sourceEnd w) 5 3 (5 ∷ 6 ∷ 7 ∷ []) (clearAt 1 0 2 low) tt (second .bytes) (omega (arith, second .long, secured t)) in
+    simp t (clears-on second third))
     (λ f. simp f second)
 
 -- a beacon, its places counted from its own beginning

@@ -1,4 +1,5 @@
--- The bits of a byte: what a mask holds of them, what clearing leaves of them, and a byte by its bits. Each is one test, computed for all bytes.
+-- The bits of a byte: what a mask holds of them, what clearing leaves of them, and a byte by its bits. Each is one test, computed for all
+-- bytes.
 -- Assumes nothing.
 use Prim.Native.Nat.{ℕ, _+_, _-_, _<_}
 use native.Mathlib.Omega.{arith}

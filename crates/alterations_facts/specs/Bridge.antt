@@ -14,8 +14,8 @@ use Rattle.payload.specs.Frame.{unsecuredBeacon}
 use Rattle.gateway.specs.Rewrite.{rewriteBeacon}
 use Rattle.alterations.specs.Listed.{holdsBeacon}
 
--- what it answers: reading's refusals, the header's and then the beacon's, and writing's, with room for as many bytes as
--- were read
+-- what it answers: reading's refusals, the header's and then the beacon's, and writing's, with room for as many bytes
+-- as were read
 abbrev pub bridged : List ℕ → HeaderRead → Outcome
 bridged s (Refused r) = refused (readNumber r)
 bridged s (Read h n) =

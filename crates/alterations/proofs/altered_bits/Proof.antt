@@ -31,8 +31,10 @@ abbrev start-of : tie.After-u16-at → tie.Start
 start-of c = c .before .before .before .before .before
 
 -- whether the frame holds a beacon
-alone : (c : tie.Then2) → holdsBeacon (number (now (start-of (c .before .before .before .before .before .before .before) .args .frame)) 0 2) ≡ false
-alone c = ap holdsBeacon (sym (c .before .before .before .before .before .before .before .u16-at .ensures)) ∙ sym (c .before .holds-beacon .ensures) ∙ not-true _ (c .if2 .taken)
+alone : (c : tie.Then2) → let word = c .before .before .before .before .before .before .before in holdsBeacon (number (now (start-of word .args .frame)) 0 2) ≡ false
+alone c =
+    let word = c .before .before .before .before .before .before .before in
+    ap holdsBeacon (sym (word .u16-at .ensures)) ∙ sym (c .before .holds-beacon .ensures) ∙ not-true _ (c .if2 .taken)
 
 both : (c : tie.Else2) → holdsBeacon (number (now (start-of (control-of c) .args .frame)) 0 2) ≡ true
 both c = ap holdsBeacon (sym (control-of c .u16-at .ensures)) ∙ sym (c .before .holds-beacon .ensures) ∙ not-false _ (c .if2 .left)

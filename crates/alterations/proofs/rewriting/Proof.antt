@@ -61,7 +61,8 @@ beacon-there c = ap (λ (o : Outcome). o .number) (sym (measured-there (c .befor
 refused-read : tie.Need-returns
 refused-read c =
     let told = c .before .before .measure-header .ensures in
-    told ∙ header-refused (now (c .before .before .before .before .args .frame)) (λ z. c .if1 .taken (ap (λ (o : Outcome). o .number) told ∙ z))
+    let s = now (c .before .before .before .before .args .frame) in
+    told ∙ header-refused s (λ z. c .if1 .taken (ap (λ (o : Outcome). o .number) told ∙ z))
 
 refused-alone : tie.Need-returns-2
 refused-alone c =
@@ -118,7 +119,9 @@ accepted-both c =
     c .accepted .ensures
     ∙ (λ i. accepted (long header i + measured-there (beacon .before .before) i .length))
     ∙ both-accepted (frame header) (read header) (both test) (beacon-there beacon)
-    (ap sourceless (sym (test .before .before .u16-at .ensures)) ∙ sym (source .sourceless2 .ensures) ∙ c .before .before .before .if5 .left)
+    (ap sourceless (sym (test .before .before .u16-at .ensures))
+    ∙ sym (source .sourceless2 .ensures)
+    ∙ c .before .before .before .if5 .left)
 
 pub rewriting-spec : {M : Type 1} → statement M
 rewriting-spec =
