@@ -7,8 +7,8 @@ use borrow.Author.Needs.{needs}
 use lib.ListN.{length, take}
 use lib.Seq.{length-take-le}
 use Rattle.line_cutter.proofs.Cutting.{cut-small, cut-used, cut-held, cut-ended, cut-open}
-use Rattle.lines.specs.Answer.{answer}
-use Rattle.lines.proofs.Answer.{answer-front}
+use Rattle.labelled.proofs.Answer.{answer-front}
+use Rattle.lines.specs.Answer.{said, answer}
 use Rattle.lines.proofs.put_line.Statement.{statement}
 use Rattle.lines.proofs.put_line.Tie as tie
 
@@ -44,7 +44,7 @@ ended c =
     let u = cut-used (a .chunk .now) (a .at) (a .line .now) (a .n) (k .cut .result) _ (k .cut .ensures .0) (k .cut .ensures .1) (s .pre .0)
     (s .pre .1 .0) (s .pre .1 .1 .0) (t .if1 .taken) in
     let r = cut-ended (a .chunk .now) (a .at) (a .line .now) (a .n) (k .cut .result) _ (k .cut .ensures .0) (k .cut .ensures .1) (s .pre .0)
-    (s .pre .1 .0) (s .pre .1 .1 .0) answer answer-front (a .out .now) _ (a .used) (p .put-answer .result) (t .if1 .taken) (p .put-answer .ensures .0) in
+    (s .pre .1 .0) (s .pre .1 .1 .0) answer (answer-front said) (a .out .now) _ (a .used) (p .put-answer .result) (t .if1 .taken) (p .put-answer .ensures .0) in
     (r .0, (r .1, omega (arith, whole k, p .put-answer .ensures .1, u .0, u .1, s .pre .1 .1 .0)))
 
 unended : tie.Need-returns-2
@@ -55,7 +55,7 @@ unended c =
     let h = cut-held (a .chunk .now) (a .at) (a .line .now) (a .n) (k .cut .result) _ (k .cut .ensures .0) (k .cut .ensures .1) (s .pre .0)
     (s .pre .1 .0) (s .pre .1 .1 .0) (c .if1 .left) in
     let r = cut-open (a .chunk .now) (a .at) (a .line .now) (a .n) (k .cut .result) _ (k .cut .ensures .0) (k .cut .ensures .1) (s .pre .0)
-    (s .pre .1 .0) (s .pre .1 .1 .0) answer answer-front (a .out .now) (a .used) (c .if1 .left) in
+    (s .pre .1 .0) (s .pre .1 .1 .0) answer (answer-front said) (a .out .now) (a .used) (c .if1 .left) in
     (r .0, (r .1, omega (arith, h, r .1 .later, r .1 .within)))
 
 pub put-line-spec : {M : Type 1} → statement M
