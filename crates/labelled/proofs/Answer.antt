@@ -8,15 +8,15 @@ use mathlib.Core.List.{List, [], _∷_, _++_}
 use mathlib.Core.Path.{_≡_, refl, sym, ap, _∙_, subst}
 use borrow.Author.Tests.{ltb-true, ltb-false, lt-ltb, le-ltb, ne-eqb}
 use lib.Dec.{ltb, eqb}
-use lib.ListN.{length, take, drop, length-drop}
+use lib.ListN.{length, take, drop, length-append, length-drop}
 use lib.Seq.{length-take-le, take-all, drop-append-add}
 use Rattle.octets.specs.Order.{first}
 use Rattle.octets.proofs.Cases.{cases, holds?}
 use Rattle.line_cutter.specs.Line.{lineMost, keptMost, before}
-use Rattle.line_cutter.proofs.Line.{Free, before-free, before-take, before-stop, before-part-at, free-first}
+use Rattle.line_cutter.proofs.Line.{Free, before-free, before-take, before-length, before-stop, before-part-at, free-first}
 use Rattle.hex.specs.Hex.{isDigit, odd, foreign, unhex, decoded, digit}
 use Rattle.hex.proofs.Hex.{foreign-no, unhex-length, unhex-whole, whole-good}
-use Rattle.labelled.specs.Answer.{tabs, bad, labelled}
+use Rattle.labelled.specs.Answer.{tabs, label, digits, bad, labelled}
 
 tab-foreign : isDigit 9 ≡ false
 unfolding digit
@@ -53,6 +53,22 @@ later true e = refl
 later false e = e
 
 module _ (said : List ℕ → List ℕ) where
+  -- an answer is no longer than its line and what can be said of a frame
+  pub labelled-most : (n : ℕ) → 4 ≤ n → ((s : List ℕ) → length (said s) ≤ n) → (l : List ℕ) → length (labelled said l) ≤ length l + n
+  unfolding labelled
+  labelled-most n h k l =
+      let b : length bad ≤ length l + n = omega (arith, bad-length) in
+      let t = digits l in
+      let good : length (label l ++ said (unhex t)) ≤ length l + n =
+      rw (length-append (label l)) (omega (arith, before-length 9 9 l, k (unhex t))) in
+      cases (holds? (ltb lineMost (length l))) (λ e. simp e b)
+      (λ e.
+      cases (holds? (eqb (tabs l) 1))
+      (λ f.
+      cases (holds? (odd t)) (λ o. simp (e, f, o) b)
+      (λ o. cases (holds? (foreign t)) (λ g. simp (e, f, o, g) b) (λ g. simp (e, f, o, g) good)))
+      (λ f. simp (e, f) b))
+
   -- a line parted at its first tab
   module _ (s t : List ℕ) (f : Free 9 s) where
     parted : labelled said (s ++ (9 ∷ t)) ≡
@@ -124,5 +140,6 @@ module _ (said : List ℕ → List ℕ) where
 
     pub line-part : (tab + 1 + 2 * n ≡ length l → ⊥) → bad ≡ labelled said l
     line-part h =
-        sym (answer-part (take tab l) (drop (tab + 1) l) label-free (λ w. h (omega (arith, ap length all-decoded, length-drop (tab + 1) l))))
+        sym (answer-part (take tab l) (drop (tab + 1) l) label-free
+        (λ w. h (omega (arith, ap length all-decoded, length-drop (tab + 1) l))))
         ∙ ap (labelled said) (sym line-tab)

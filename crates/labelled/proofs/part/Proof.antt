@@ -43,8 +43,8 @@ short c =
     let d = c .before .before .before in
     let f = d .before .before in
     let a = f .before .before .before .args in (
-      part-short (a .values .now) (a .line .now) (length (a .frame .now)) (f .find .result) (d .decode-by .result) (tab-at f) (d .decode-by .ensures .0)
-          (c .if1 .taken),
+      part-short (a .values .now) (a .line .now) (length (a .frame .now)) (f .find .result) (d .decode-by .result) (tab-at f)
+          (d .decode-by .ensures .0) (c .if1 .taken),
       stored d,
     )
 
@@ -53,8 +53,8 @@ long c =
     let d = c .before .before .before in
     let f = d .before .before in
     let a = f .before .before .before .args in (
-      part-long (a .values .now) (a .line .now) (length (a .frame .now)) (f .find .result) (d .decode-by .result) (tab-at f) (d .decode-by .ensures .0)
-          (c .if1 .left),
+      part-long (a .values .now) (a .line .now) (length (a .frame .now)) (f .find .result) (d .decode-by .result) (tab-at f)
+          (d .decode-by .ensures .0) (c .if1 .left),
       stored d,
     )
 

@@ -32,7 +32,9 @@ loop-again c =
       omega (arith, l .inv .1),
       fewer-digits (l .from) (l .rest) (l .inv .0) (l .inv .2),
       simp length-set (l .inv .3),
-      digit-more (l .digits) (l .from) (l .from - 1) (l .rest) (omega (arith, l .inv .0)) t (omega (arith, l .inv .0, l .inv .1, l .inv .3)) ∙ l .inv .4,
+      digit-more (l .digits) (l .from) (l .from - 1) (l .rest) (omega (arith, l .inv .0)) t
+          (omega (arith, l .inv .0, l .inv .1, l .inv .3))
+          ∙ l .inv .4,
     )
 
 -- the last digit is stored, and all of them stand from there on
