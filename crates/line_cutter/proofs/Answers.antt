@@ -7,12 +7,12 @@ use native.Mathlib.Omega.{arith}
 use mathlib.Core.Bool.{true, false}
 use mathlib.Core.List.{List, [], _∷_, _++_, append-nil, append-assoc}
 use mathlib.Core.Path.{_≡_, refl, sym, ap, _∙_}
-use lib.ListN.{length, take, drop, length-append}
-use lib.Seq.{take-all, take-take}
+use lib.ListN.{length, take, drop, length-append, drop-of-length-le}
+use lib.Seq.{take-all, take-take, length-take-le}
 use Rattle.octets.specs.Buffer.{laid}
 use Rattle.octets.specs.Stored.{Stored}
 use Rattle.octets.proofs.Buffer.{laid-none, laid-join}
-use Rattle.line_cutter.specs.Answers.{answers, output, fedTo, printed}
+use Rattle.line_cutter.specs.Answers.{Left, answers, output, fedTo, printed}
 use Rattle.line_cutter.specs.Line.{keptMost, lineFeed, lineOf, lineEnds, behind}
 use Rattle.line_cutter.specs.Lines.{ended, begun, last, lines, run, joined, inChunks}
 use Rattle.line_cutter.proofs.Line.{Free, free-first, line-ended, line-open}
@@ -59,9 +59,19 @@ module _ (answer : List ℕ → List ℕ) where
       fed-empty line chunk out o n n at at used next e e (ap (λ (k : ℕ). fedTo answer [] (drop k chunk) o next) f ∙ g)
 
   -- nothing is left of a chunk
-  pub fed-done : (l out : List ℕ) (u : ℕ) → length l ≤ keptMost → record { out = out; used = u; kept = l } ≡ fedTo answer l [] out u
+  fed-done : (l out : List ℕ) (u : ℕ) → length l ≤ keptMost → record { out = out; used = u; kept = l } ≡ fedTo answer l [] out u
   unfolding fedTo ended begun answers
   fed-done l out u h = rw (laid-none out u, add-zero, take-all keptMost l h)
+
+  -- a loop that has come to the end of a chunk has done what the whole chunk leads to
+  pub fed-all : (chunk line out : List ℕ) (held used at : ℕ) (whole : Left) → held ≤ keptMost → held ≤ length line → length chunk ≤ at →
+      fedTo answer (take held line) (drop at chunk) out used ≡ whole →
+      record { out = out; used = used; kept = take held line } ≡ whole
+  fed-all chunk line out held used at whole h k g e =
+      let l = take held line in
+      fed-done l out used (omega (arith, length-take-le held line k))
+      ∙ ap (λ (t : List ℕ). fedTo answer l t out used) (sym (drop-of-length-le chunk g))
+      ∙ e
 
   -- the end of the input
   pub last-none : (l : List ℕ) (n : ℕ) → n ≡ 0 → [] ≡ answers answer (last (take n l))

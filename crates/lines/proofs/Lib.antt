@@ -1,4 +1,3 @@
-pub mod Answer
 pub mod Chunks
 pub mod Quick
 pub mod Whole

@@ -19,7 +19,7 @@ use Rattle.hex.proofs.Hex.{unhex-take, whole-good}
 use Rattle.lines.specs.Answer.{said, answer}
 use Rattle.octets.specs.Stored.{Stored}
 use Rattle.lines.specs.Place.{isAt}
-use Rattle.lines.proofs.Answer.{feed-foreign, foreign-free, answer-good}
+use Rattle.labelled.proofs.Answer.{feed-foreign, foreign-free, answer-good}
 use Rattle.line_cutter.proofs.Answers.{fed-line}
 use Rattle.octets.proofs.Stored.{same}
 
@@ -91,6 +91,6 @@ module _ (chunk : List ℕ) (at tab n : ℕ) (e : tab ≡ at + length (before 9 
       fedTo answer [] (drop (tab + 1 + 2 * n + 1) chunk) o r ≡ fedTo answer [] (drop at chunk) out u
   unfolding label
   quick-fed out o u r s =
-      let a = ap (λ (l : List ℕ). label ++ said l) (sym digits-bytes) ∙ sym (answer-good label digits no-tab short digits-whole) in
+      let a = ap (λ (l : List ℕ). label ++ said l) (sym digits-bytes) ∙ sym (answer-good said label digits no-tab short digits-whole) in
       fed-line answer (label ++ (9 ∷ digits)) [] (drop (tab + 1 + 2 * n + 1) chunk) out o u r no-feed (same a s)
       ∙ ap (λ (l : List ℕ). fedTo answer [] l out u) (sym laid-out)

@@ -6,8 +6,8 @@ use mathlib.Core.Path.{_≡_}
 use Rattle.line_cutter.specs.Answers.{output, printed}
 use Rattle.line_cutter.specs.Lines.{joined}
 use Rattle.line_cutter.proofs.Answers.{printed-whole}
-use Rattle.lines.specs.Answer.{answer}
-use Rattle.lines.proofs.Answer.{answer-front}
+use Rattle.labelled.proofs.Answer.{answer-front}
+use Rattle.lines.specs.Answer.{said, answer}
 
 pub frames-printed : (cs : List (List ℕ)) → printed answer [] cs ≡ output answer (joined cs)
-frames-printed = printed-whole answer answer-front
+frames-printed = printed-whole answer (answer-front said)

@@ -12,12 +12,12 @@ ghost use Rattle.lines.specs.Chunks.{takes, feeding, ending};
 ghost use Rattle.lines.specs.Place.{isAt};
 use hex::decode_by;
 use hex::values;
+use labelled::FRAME_MOST;
 use line_cutter::KEPT_MOST;
 use line_cutter::LINE_MOST;
 use line_cutter::cut;
 use line_cutter::find;
 use octets::left;
-use one_line::FRAME_MOST;
 use one_line::put_answer;
 use one_line::put_good;
 

@@ -2,17 +2,15 @@
 ghost use Rattle.octets.specs.Words.{_+_, _≤_, _<_, [], _∷_, _++_, _≡_, length};
 ghost use Rattle.hex.specs.Hex.{worths};
 ghost use Rattle.line_cutter.specs.Line.{lineFeed};
-ghost use Rattle.lines.specs.Answer.{decimal, columns, said, bad, answer};
+ghost use Rattle.labelled.specs.Decimal.{decimal};
+ghost use Rattle.lines.specs.Answer.{columns, said, answer};
 ghost use Rattle.octets.specs.Stored.{Stored};
 use header::Header;
-use hex::decode_by;
-use line_cutter::LINE_MOST;
-use line_cutter::find;
+use labelled::FRAME_MOST;
+use labelled::part;
+use labelled::put_bad;
 use octets::Outcome;
 use octets::copy;
-
-// Room for the bytes that the digits of a line stand for.
-pub(crate) const FRAME_MOST: usize = 512;
 
 // Stores a number below 100 in decimal and a line feed.
 fn put_length(k: usize, out: &mut [u8], at: usize) -> usize
@@ -46,18 +44,6 @@ fn put_columns(o: Outcome, out: &mut [u8], at: usize) -> usize
     put_length(o.length, out, at + 3)
 }
 
-fn put_bad(out: &mut [u8], at: usize) -> usize
-    requires { ⌜ at + 4 ≤ length (now out) ⌝ }
-    ensures { λ r. ⌜ Stored (now (out .entry)) at bad (now (out .exit)) r ⌝ }
-    ensures { λ r. ⌜ r ≤ at + 4 ⌝ }
-{
-    out[at] = b'b';
-    out[at + 1] = b'a';
-    out[at + 2] = b'd';
-    out[at + 3] = b'\n';
-    at + 4
-}
-
 // Stores the answer to a line that is not bad, from its label and its bytes. Asks for room: the label and six bytes.
 pub(crate) fn put_good(label: &[u8], frame: &[u8], out: &mut [u8], at: usize) -> usize
     requires { ⌜ at + length (now label) + 6 ≤ length (now out) ⌝ }
@@ -80,16 +66,11 @@ pub(crate) fn put_answer(line: &[u8], values: &[u16; 256], out: &mut [u8], at: u
     ensures { λ r. ⌜ r ≤ at + length (now (line .entry)) + 5 ⌝ }
 {
     let mut frame = [0u8; FRAME_MOST];
-    if line.len() > LINE_MOST {
+    let parted = part(line, values, &mut frame);
+    if !parted.good {
         return put_bad(out, at);
     }
-    let tab = find(line, 0, b'\t', b'\t');
-    if tab >= line.len() {
-        return put_bad(out, at);
-    }
-    let n = decode_by(line, tab + 1, values, &mut frame);
-    if tab + 1 + 2 * n != line.len() {
-        return put_bad(out, at);
-    }
-    put_good(&line[..tab], &frame[..n], out, at)
+    let tab = parted.tab;
+    let count = parted.count;
+    put_good(&line[..tab], &frame[..count], out, at)
 }

@@ -2,14 +2,12 @@
 -- Assumes nothing.
 use Prim.Native.Nat.{ℕ, _+_, _-_, _*_, _≤_}
 use native.Mathlib.Omega.{arith}
-use mathlib.Core.List.{List}
-use mathlib.Core.Path.{_≡_, refl, sym, ap, _∙_}
+use mathlib.Core.Path.{_≡_, refl, _∙_}
 use borrow.Author.Needs.{needs}
-use lib.ListN.{length, take, drop, length-replicate, drop-of-length-le}
-use lib.Seq.{length-take-le}
+use lib.ListN.{length, take, drop, length-replicate}
 use Rattle.line_cutter.specs.Answers.{fedTo}
 use Rattle.line_cutter.specs.Line.{keptMost}
-use Rattle.line_cutter.proofs.Answers.{fed-done}
+use Rattle.line_cutter.proofs.Answers.{fed-all}
 use Rattle.lines.specs.Answer.{answer}
 use Rattle.lines.proofs.feed_lines.Statement.{statement}
 use Rattle.lines.proofs.feed_lines.Tie as tie
@@ -62,12 +60,9 @@ returns : tie.Need-returns Inv-loop μ-loop
 returns c =
     let l = c .before .loop in
     let s = c .before .before .before .before .before .before in
-    let a = s .args in
-    let e = drop-of-length-le (a .chunk .now) (c .loop-test .left) in
-    let h : length (take (l .held) (l .line)) ≤ keptMost =
-    omega (arith, length-take-le (l .held) (l .line) (omega (arith, l .inv .1, l .inv .2, s .pre .1 .0)), l .inv .1) in (
-      fed-done answer (take (l .held) (l .line)) (l .out) (l .used) h
-          ∙ ap (λ (t : List ℕ). fedTo answer (take (l .held) (l .line)) t (l .out) (l .used)) (sym e) ∙ l .inv .6,
+    let short : l .held ≤ length (l .line) = omega (arith, l .inv .1, l .inv .2, s .pre .1 .0) in (
+      fed-all answer (s .args .chunk .now) (l .line) (l .out) (l .held) (l .used) (l .at) _ (l .inv .1) short (c .loop-test .left)
+          (l .inv .6),
       (l .inv .1, omega (arith, l .inv .5, l .inv .0, s .pre .1 .1)),
     )
 

@@ -1,0 +1,4 @@
+pub mod Arrays
+pub mod Lengths
+pub mod Marks
+pub mod Whole

@@ -1,0 +1,48 @@
+-- The answer to one line, given without its line feed: its label, what rewriting its frame answers (number and length),
+-- and every bit that this alters.
+use Rattle.octets.specs.Words.{ℕ, List, [], _∷_, _++_}
+use Rattle.octets.specs.{declared.Outcome.Outcome}
+use Rattle.line_cutter.specs.{Line.tabByte, Line.lineFeed}
+use Rattle.labelled.specs.{Answer.labelled, Decimal.decimal}
+use Rattle.alterations.specs.{Altered.altered, Rewriting.rewriteFrame}
+use Rattle.alters.specs.{Bits.bitsOf}
+
+abbrev pub dash : ℕ
+dash = 45
+
+abbrev pub dot : ℕ
+dot = 46
+
+abbrev pub space : ℕ
+space = 32
+
+-- a bit as BYTE.BIT, the place of its byte in the frame and its number there
+abbrev pub told : ℕ × ℕ → List ℕ
+told b = decimal (b .0) ++ (dot ∷ decimal (b .1))
+
+-- bits, the first behind a given mark, each other behind a space
+unfoldable pub marked : ℕ → List (ℕ × ℕ) → List ℕ
+marked mark [] = []
+marked mark (b ∷ bits) = mark ∷ (told b ++ marked space bits)
+
+-- the mark for the next bit
+abbrev pub nextMark : ℕ → List (ℕ × ℕ) → ℕ
+nextMark mark [] = mark
+nextMark mark (b ∷ bits) = space
+
+-- the column of bits, behind its tab; a dash where there is none
+unfoldable pub column : List (ℕ × ℕ) → List ℕ
+column [] = tabByte ∷ dash ∷ []
+column (b ∷ bits) = marked tabByte (b ∷ bits)
+
+-- the columns of number and length, each behind its tab
+unfoldable pub outcomeTold : Outcome → List ℕ
+outcomeTold o = tabByte ∷ (decimal (o .number) ++ (tabByte ∷ decimal (o .length)))
+
+-- what is said of a frame
+unfoldable pub said : List ℕ → List ℕ
+said frame = outcomeTold (rewriteFrame frame) ++ (column (bitsOf (altered frame)) ++ (lineFeed ∷ []))
+
+-- a label and what is said of the frame, or `bad`
+abbrev pub answer : List ℕ → List ℕ
+answer = labelled said

@@ -1,0 +1,4 @@
+pub mod Answer
+pub mod Decimal
+pub mod Form
+pub mod Putting

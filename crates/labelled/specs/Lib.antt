@@ -1,0 +1,4 @@
+pub mod Answer
+pub mod Decimal
+pub mod Parted
+pub mod Put

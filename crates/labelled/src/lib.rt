@@ -1,0 +1,76 @@
+// A line that is a label, a tab and a frame in hex: taken apart, and what is stored to answer it. A store takes as much
+// as has room and returns the place behind it, so that nothing is asked of a caller.
+ghost use Rattle.octets.specs.Words.{[], _∷_, _≡_, length};
+ghost use Rattle.octets.specs.Buffer.{laid};
+ghost use Rattle.labelled.specs.Answer.{bad};
+ghost use Rattle.labelled.specs.Decimal.{decimal};
+ghost use Rattle.labelled.specs.Parted.{frameBy, parted};
+ghost use Rattle.labelled.specs.Put.{Put};
+use hex::decode_by;
+use line_cutter::LINE_MOST;
+use line_cutter::find;
+use octets::copy;
+
+// Room for the bytes that the digits of a line stand for.
+pub const FRAME_MOST: usize = 512;
+
+// A line taken apart: whether it is of its form, where its first tab stands, or its end, and how many bytes the digits
+// behind that gave.
+pub struct Parted {
+    pub good: bool,
+    pub tab: usize,
+    pub count: usize,
+}
+
+// Takes a line apart, given without its line feed, by a lent table of what bytes count for in a pair of digits
+// (`hex::values`), and stores the bytes of its frame from the beginning of a buffer on, as many as have room.
+pub fn part(line: &[u8], values: &[u16; 256], frame: &mut [u8]) -> Parted
+    ensures { λ r. ⌜ r ≡ parted (now (values .entry)) (now (line .entry)) (length (now (frame .entry))) ⌝ }
+    ensures { λ r. ⌜ now (frame .exit)
+        ≡ laid (now (frame .entry)) 0
+        (frameBy (now (values .entry)) (now (line .entry)) (length (now (frame .entry)))) ⌝ }
+{
+    let tab = find(line, 0, b'\t', b'\t');
+    let count = decode_by(line, tab + 1, values, frame);
+    let whole = tab + 1 + 2 * count == line.len();
+    Parted {
+        good: line.len() <= LINE_MOST && whole,
+        tab,
+        count,
+    }
+}
+
+// Stores a byte.
+pub fn put_byte(byte: u8, out: &mut [u8], at: usize) -> usize
+    ensures { λ r. ⌜ Put (now (out .entry)) at (byte ∷ []) (now (out .exit)) r ⌝ }
+{
+    if at < out.len() {
+        out[at] = byte;
+        return at + 1;
+    }
+    at
+}
+
+// Stores `bad` and a line feed.
+pub fn put_bad(out: &mut [u8], at: usize) -> usize
+    ensures { λ r. ⌜ Put (now (out .entry)) at bad (now (out .exit)) r ⌝ }
+{
+    copy(b"bad\n", out, at)
+}
+
+// Stores a number in decimal.
+pub fn put_decimal(n: usize, out: &mut [u8], at: usize) -> usize
+    ensures { λ r. ⌜ Put (now (out .entry)) at (decimal n) (now (out .exit)) r ⌝ }
+{
+    let mut digits = [0u8; 20];
+    let mut rest = n;
+    let mut from = 20;
+    while rest > 9 {
+        from -= 1;
+        digits[from] = b'0' + (rest % 10) as u8;
+        rest = rest / 10;
+    }
+    from -= 1;
+    digits[from] = b'0' + rest as u8;
+    copy(&digits[from..], out, at)
+}
