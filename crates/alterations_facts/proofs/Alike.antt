@@ -10,12 +10,17 @@ use Rattle.octets.proofs.Cases.{cases, holds?}
 use Rattle.header_bytes.specs.Layout.{ownDestination, ownSource, panSize, addressSize, sourceEnd, headerEnd}
 use Rattle.header_bytes.specs.{Reading.measured}
 use Rattle.header_bytes.proofs.Accepted.{read-accepted}
+use Rattle.header.specs.declared.Header.{Header}
+use Rattle.header.specs.declared.HeaderRead.the-variants.{Read}
+use Rattle.header.specs.Read.{readHeader, readOutcome}
+use Rattle.header.proofs.Apart.{read-measured}
 use Rattle.time_slots.specs.TimeSlots.{slotsLength, slotCountIn, timeSlotsIn}
 use Rattle.beacon.specs.declared.BeaconRead.{BeaconRead}
 use Rattle.beacon.specs.Beacon.{beaconIn, beaconLengthIn, readBeacon}
 use Rattle.beacon_facts.proofs.Beacon.{beacon-read}
 use Rattle.alterations.specs.Listed.{headerBits, directionBits, beaconBits, holdsBeacon, listed}
 use Rattle.alterations.proofs.Answers.{Accepted}
+use Rattle.alterations_facts.proofs.Records.{Told, told-read, Same}
 
 pub record Alike (s t : List ℕ) : Type 0 where
   pub type : bits (number t 0 2) 0 3 ≡ bits (number s 0 2) 0 3
@@ -26,6 +31,23 @@ pub record Alike (s t : List ℕ) : Type 0 where
   pub read : measured t ≡ measured s
   pub beacon : holdsBeacon (number s 0 2) ≡ true →
       readBeacon t (headerEnd s (number s 0 2)) ≡ readBeacon s (headerEnd s (number s 0 2))
+
+-- frames whose headers are read with the same length as records that tell the same
+pub alike-read : (s t : List ℕ) (h g : Header) (n : ℕ) → readHeader s ≡ Read h n → readHeader t ≡ Read g n → Same h g →
+    (holdsBeacon (number s 0 2) ≡ true → readBeacon t (headerEnd s (number s 0 2)) ≡ readBeacon s (headerEnd s (number s 0 2))) →
+    Alike s t
+alike-read s t h g n e f same beacon =
+    let one : Told s h = told-read s h n e in
+    let two : Told t g = told-read t g n f in
+    record {
+      type = two .type ∙ same .type ∙ sym (one .type);
+      security = two .security ∙ same .security ∙ sym (one .security);
+      compress = two .compress ∙ same .compress ∙ sym (one .compress);
+      to = two .to ∙ same .to ∙ sym (one .to);
+      from = two .from ∙ same .from ∙ sym (one .from);
+      read = sym (read-measured t) ∙ ap readOutcome f ∙ sym (ap readOutcome e) ∙ read-measured s;
+      beacon = beacon;
+    }
 
 -- two beacons at a place that read as one have the same count of slots
 beacon-counts : (s t : List ℕ) (at : ℕ) → readBeacon s at .outcome .number ≡ 0 → readBeacon t at ≡ readBeacon s at →

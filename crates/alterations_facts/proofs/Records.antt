@@ -43,6 +43,14 @@ told-passed s p =
 pub told-read : (s : List ℕ) (h : Header) (n : ℕ) → readHeader s ≡ Read h n → Told s h
 told-read s h n e = let q = apart s h n e in rw (q .header) at (told-passed s (q .passed))
 
+-- two records that tell the same of it
+pub record Same (h g : Header) : Type 0 where
+  pub type : typeBits (g .«frame_type») ≡ typeBits (h .«frame_type»)
+  pub security : secured g ≡ secured h
+  pub compress : g .«pan_id_compress» ≡ h .«pan_id_compress»
+  pub to : modeBits (modeOf (g .destination)) ≡ modeBits (modeOf (h .destination))
+  pub from : modeBits (modeOf (g .source)) ≡ modeBits (modeOf (h .source))
+
 -- whether a beacon is looked at
 holds-so : (secured : Bool) (type : ℕ) → (eqb type 0 && not secured) ≡ cond secured false (eqb type 0)
 holds-so true type = and-false (eqb type 0)

@@ -17,8 +17,7 @@ use Rattle.header_bytes.specs.{Layout.headerEnd, Cleared.headerCleared}
 use Rattle.header_bytes.proofs.Cleared.{header-cleared-length}
 use Rattle.header.specs.declared.Header.{Header}
 use Rattle.header.specs.declared.HeaderRead.the-variants.{Read}
-use Rattle.header.specs.Read.{headerIn, readHeader, readOutcome}
-use Rattle.header.proofs.Apart.{read-measured}
+use Rattle.header.specs.Read.{headerIn, readHeader}
 use Rattle.header_facts.specs.Rewritten.{lost}
 use Rattle.header_facts.proofs.Trip.{header-rewritten, unread}
 use Rattle.beacon.specs.Beacon.{beaconLengthIn, readBeacon, beaconBytes}
@@ -38,8 +37,8 @@ use Rattle.alterations_facts.proofs.Tables.{by-bits}
 use Rattle.alterations_facts.proofs.Naming.{Solid, listed-listable, named-altered, solid-altered, names-nothing}
 use Rattle.alterations_facts.proofs.Clearing.{Clears, listed-before}
 use Rattle.alterations_facts.proofs.Frames.{frame-cleared, frame-within, listed-within}
-use Rattle.alterations_facts.proofs.Records.{Told, told-read}
-use Rattle.alterations_facts.proofs.Alike.{Alike, listed-alike, accepted-alike}
+use Rattle.alterations_facts.proofs.Records.{Same}
+use Rattle.alterations_facts.proofs.Alike.{Alike, alike-read, listed-alike, accepted-alike}
 use Rattle.alterations_facts.proofs.Order.{rising-altered, listed-rising}
 use Rattle.alterations_facts.proofs.Bridge.{read, beacon-answer, bridge-left, entries-left}
 
@@ -65,6 +64,13 @@ altered-same s t m (x ∷ l) h e =
 told-accepted : (s : List ℕ) (m : ℕ) (l : List (ℕ × ℕ)) → rewriteFrame s ≡ accepted m → altered s ≡ l → alterations s ≡ told (accepted m) l
 unfolding alterations
 told-accepted s m l e f = λ i. told (e i) (f i)
+
+-- neither the two lost flags nor the same record tell anything else
+same-lost : (h : Header) → Same h (lost h)
+same-lost h = record { type = refl; security = refl; compress = refl; to = refl; from = refl }
+
+same-self : (h : Header) → Same h h
+same-self h = record { type = refl; security = refl; compress = refl; to = refl; from = refl }
 
 module _ (s : List ℕ) (m : ℕ) (y : Bytes s) (e : rewriteFrame s ≡ accepted m) where
   abbrev w : ℕ
@@ -170,18 +176,7 @@ module _ (s : List ℕ) (m : ℕ) (y : Bytes s) (e : rewriteFrame s ≡ accepted
         (λ i. readBeacon (bytes i) (sym size i)) ∙ trip .again (headerCleared s) more (omega arith) ∙ sym answer
 
     alike-again : Alike s t
-    alike-again =
-        let one : Told s h = told-read s h n header in
-        let two : Told t (lost h) = told-read t (lost h) n reread in
-        record {
-          type = two .type ∙ sym (one .type);
-          security = two .security ∙ sym (one .security);
-          compress = two .compress ∙ sym (one .compress);
-          to = two .to ∙ sym (one .to);
-          from = two .from ∙ sym (one .from);
-          read = sym (read-measured t) ∙ ap readOutcome reread ∙ sym (ap readOutcome header) ∙ read-measured s;
-          beacon = rebeacon;
-        }
+    alike-again = alike-read s t h (lost h) n header reread (same-lost h) rebeacon
 
     settled : Bytes more → alterations t ≡ told (accepted m) []
     settled z =
@@ -217,19 +212,10 @@ module _ (s : List ℕ) (m : ℕ) (y : Bytes s) (e : rewriteFrame s ≡ accepted
 
     alike-behind : Alike s longer
     alike-behind =
-        let one : Told s h = told-read s h n first in
-        let two : Told longer h = told-read longer h n second in
-        record {
-          type = two .type ∙ sym (one .type);
-          security = two .security ∙ sym (one .security);
-          compress = two .compress ∙ sym (one .compress);
-          to = two .to ∙ sym (one .to);
-          from = two .from ∙ sym (one .from);
-          read = sym (read-measured longer) ∙ ap readOutcome second ∙ sym (ap readOutcome first) ∙ read-measured s;
-          beacon = λ on.
-              let answer = beacon-answer s m s y a within on in
-              beacon-rewritten s n (readBeacon s n .beacon) (beaconLengthIn s n) y answer .behind more ∙ sym answer;
-        }
+        alike-read s longer h h n first second (same-self h)
+        (λ on.
+        let answer = beacon-answer s m s y a within on in
+        beacon-rewritten s n (readBeacon s n .beacon) (beaconLengthIn s n) y answer .behind more ∙ sym answer)
 
     behind : alterations longer ≡ alterations s
     behind =
