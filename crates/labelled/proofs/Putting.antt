@@ -13,6 +13,7 @@ use Rattle.octets.specs.Stored.{Stored}
 use Rattle.octets.proofs.Buffer.{laid-none, laid-cons, laid-length, laid-past, laid-join, stored-on}
 use Rattle.octets.proofs.Cases.{cases, holds?}
 use Rattle.octets.proofs.Copying.{fitting-all}
+use Rattle.octets.proofs.Decided.{one-answer}
 use Rattle.labelled.specs.Put.{Put}
 
 -- two stores
@@ -28,6 +29,10 @@ same {l} {o} {a} {b} {at} {r} e s = subst (λ (x : List ℕ). Put l at x o r) e 
 -- with room all is stored
 pub roomy : {l b o : List ℕ} {at r : ℕ} → at + length b ≤ length l → Put l at b o r → Stored l at b o r
 roomy {l} {b} {o} {at} {r} h s = record { bytes = s .bytes; next = omega (arith, s .next) }
+
+-- place and buffer that a contract of this shape allows coincide
+pub one-put : {l b o p : List ℕ} {at r q : ℕ} → Put l at b o r → Put l at b p q → (r ≡ q) × (o ≡ p)
+one-put s t = (one-answer (s .next) (t .next), one-answer (s .bytes) (t .bytes))
 
 module _ (l : List ℕ) (at : ℕ) where
   pub none : Put l at [] l at

@@ -44,7 +44,7 @@ short c =
     let f = d .before .before in
     let a = f .before .before .before .args in (
       part-short (a .values .now) (a .line .now) (length (a .frame .now)) (f .find .result) (d .decode-by .result) (tab-at f)
-          (d .decode-by .ensures .0) (c .if1 .taken),
+          (d .decode-by .ensures .0) (omega (arith, c .if1 .taken)),
       stored d,
     )
 

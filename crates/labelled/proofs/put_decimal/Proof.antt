@@ -26,7 +26,7 @@ loop-holds c = (omega arith, omega arith, omega arith, refl, append-nil (decimal
 loop-again : tie.Need-loop-again Inv-loop μ-loop
 loop-again c =
     let l = c .before .loop in
-    let t = c .loop-test .taken in
+    let t : 9 < l .rest = omega (arith, c .loop-test .taken) in
     let k = digits-left (l .from) (l .rest) t (l .inv .2) in (
       omega (arith, k),
       omega (arith, l .inv .1),
@@ -48,7 +48,7 @@ all : (c : tie.After-loop Inv-loop μ-loop) →
     drop (l .from - 1) (set (l .digits) (l .from - 1) (48 + l .rest)) ≡ decimal (c .before .before .before .args .n)
 all c =
     let l = c .before .loop in
-    digit-last (l .digits) (l .from) (l .from - 1) (l .rest) (omega (arith, l .inv .0)) (c .loop-test .left)
+    digit-last (l .digits) (l .from) (l .from - 1) (l .rest) (omega (arith, l .inv .0)) (omega (arith, c .loop-test .left))
     (omega (arith, l .inv .0, l .inv .1, l .inv .3))
     ∙ l .inv .4
 
