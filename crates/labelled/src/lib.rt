@@ -15,7 +15,7 @@ use octets::copy;
 pub const FRAME_MOST: usize = 512;
 
 // A line taken apart: whether it is of its form, where its first tab stands, or its end, and how many bytes the digits
-// behind that gave.
+// behind that gave; of a line that is too long, false and zeros.
 pub struct Parted {
     pub good: bool,
     pub tab: usize,
@@ -30,11 +30,17 @@ pub fn part(line: &[u8], values: &[u16; 256], frame: &mut [u8]) -> Parted
         ≡ laid (now (frame .entry)) 0
         (frameBy (now (values .entry)) (now (line .entry)) (length (now (frame .entry)))) ⌝ }
 {
+    if line.len() > LINE_MOST {
+        return Parted {
+            good: false,
+            tab: 0,
+            count: 0,
+        };
+    }
     let tab = find(line, 0, b'\t', b'\t');
     let count = decode_by(line, tab + 1, values, frame);
-    let whole = tab + 1 + 2 * count == line.len();
     Parted {
-        good: line.len() <= LINE_MOST && whole,
+        good: tab + 1 + 2 * count == line.len(),
         tab,
         count,
     }
