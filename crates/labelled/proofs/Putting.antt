@@ -30,6 +30,9 @@ same {l} {o} {a} {b} {at} {r} e s = subst (λ (x : List ℕ). Put l at x o r) e 
 pub roomy : {l b o : List ℕ} {at r : ℕ} → at + length b ≤ length l → Put l at b o r → Stored l at b o r
 roomy {l} {b} {o} {at} {r} h s = record { bytes = s .bytes; next = omega (arith, s .next) }
 
+pub full : {l b o : List ℕ} {at r : ℕ} → at + length b ≤ length l → Stored l at b o r → Put l at b o r
+full {l} {b} {o} {at} {r} h s = record { bytes = s .bytes; next = omega (arith, s .next) }
+
 -- place and buffer that a contract of this shape allows coincide
 pub one-put : {l b o p : List ℕ} {at r q : ℕ} → Put l at b o r → Put l at b p q → (r ≡ q) × (o ≡ p)
 one-put s t = (one-answer (s .next) (t .next), one-answer (s .bytes) (t .bytes))

@@ -10,6 +10,7 @@ use hex::decode_by;
 use line_cutter::LINE_MOST;
 use line_cutter::find;
 use octets::copy;
+use octets::left;
 
 // Room for the bytes that the digits of a line stand for.
 pub const FRAME_MOST: usize = 512;
@@ -57,11 +58,18 @@ pub fn put_byte(byte: u8, out: &mut [u8], at: usize) -> usize
     at
 }
 
-// Stores `bad` and a line feed.
+// Stores `bad` and a line feed, byte by byte where all of it has room.
 pub fn put_bad(out: &mut [u8], at: usize) -> usize
     ensures { λ r. ⌜ Put (now (out .entry)) at bad (now (out .exit)) r ⌝ }
 {
-    copy(b"bad\n", out, at)
+    if left(out, at) < 4 {
+        return copy(b"bad\n", out, at);
+    }
+    out[at] = b'b';
+    out[at + 1] = b'a';
+    out[at + 2] = b'd';
+    out[at + 3] = b'\n';
+    at + 4
 }
 
 // Stores a number in decimal.
