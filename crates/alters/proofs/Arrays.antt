@@ -13,7 +13,8 @@ use Rattle.alterations.specs.declared.Alterations.{Alterations}
 use Rattle.alterations.specs.Altered.{altered, alterations}
 use Rattle.alterations.specs.Rewriting.{rewriteFrame}
 use Rattle.alterations.proofs.Bounds.{altered-few}
-use Rattle.alters.specs.Bits.{bitsBelow, bitsOf, bitsAt}
+use Rattle.alters.specs.Bits.{bitsBelow, bitsOf}
+use Rattle.alters.specs.Steps.{bitsAt}
 
 -- an array of six zeros with one column of a list
 module _ (f : ℕ × ℕ → ℕ) where

@@ -3,6 +3,7 @@
 use Prim.Native.Nat.{ℕ, zero, suc, _+_, _*_, _≤_, _<_}
 use native.Mathlib.Omega.{arith}
 use mathlib.Core.List.{List, [], _∷_, _++_, flatMap}
+use mathlib.Core.Path.{ap}
 use lib.ListN.{length, length-append}
 use Rattle.octets.specs.declared.Outcome.{Outcome}
 use Rattle.octets.specs.Bits.{bit}
@@ -14,8 +15,10 @@ use Rattle.alterations.specs.Altered.{altered}
 use Rattle.alterations.specs.Rewriting.{rewriteFrame}
 use Rattle.alterations.proofs.Bounds.{altered-few, altered-near, rewrite-most}
 use Rattle.alterations.proofs.Places.{Below}
-use Rattle.alters.specs.Answer.{space, told, marked, column, outcomeTold, said, answer}
+use Rattle.alters.specs.Answer.{space, told, bitsTold, column, outcomeTold, said, answer}
 use Rattle.alters.specs.Bits.{bitsBelow, bitsOf}
+use Rattle.alters.specs.Steps.{marked}
+use Rattle.alters.proofs.Marks.{undashed}
 
 -- bits that are told by two digits and one
 abbrev Short : List (ℕ × ℕ) → Type 0
@@ -65,9 +68,9 @@ marked-most mark (b ∷ l) s =
     rw (length-append (told b), length-append (decimal (b .0))) (omega (arith, place, number, marked-most space l (s .1 .1)))
 
 column-most : (l : List (ℕ × ℕ)) → Short l → length (column l) ≤ 5 * length l + 2
-unfolding column
+unfolding bitsTold
 column-most [] s = omega arith
-column-most (b ∷ l) s = omega (arith, marked-most 9 (b ∷ l) s)
+column-most (b ∷ l) s = omega (arith, marked-most 9 (b ∷ l) s, ap length (undashed (b ∷ l) (λ e. omega (arith, e))))
 
 outcome-most : (o : Outcome) → (o .number ≤ 6) × (o .length ≤ 133) → length (outcomeTold o) ≤ 6
 unfolding outcomeTold

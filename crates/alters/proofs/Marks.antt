@@ -3,15 +3,16 @@
 use Prim.Native.Nat.{ℕ, _+_, _/_, _%_, _^_}
 use native.Mathlib.Numerals.{add-one}
 use native.Mathlib.Omega.{arith}
-use mathlib.Core.List.{List, [], _∷_, _++_, append-nil, append-assoc}
+use mathlib.Core.List.{List, [], _∷_, _++_, append-nil, append-assoc, flatMap}
 use mathlib.Core.Path.{_≡_, refl, sym, ap, _∙_}
 use borrow.Author.Tests.{eq-eqb, ne-eqb}
 use lib.ListN.{getD}
 use Rattle.line_cutter.specs.Line.{tabByte}
 use Rattle.labelled.specs.Put.{Put}
 use Rattle.labelled.proofs.Putting.{join, same}
-use Rattle.alters.specs.Answer.{dash, space, told, marked, nextMark, column}
-use Rattle.alters.specs.Bits.{bitsBelow, bitsAt}
+use Rattle.alters.specs.Answer.{dash, space, told, bitsTold, column}
+use Rattle.alters.specs.Bits.{bitsBelow}
+use Rattle.alters.specs.Steps.{bitsAt, marked, nextMark}
 
 still : (a : List (ℕ × ℕ)) → nextMark space a ≡ space
 still [] = refl
@@ -77,13 +78,19 @@ pub at-more : (places masks : List ℕ) (k : ℕ) →
 unfolding bitsAt
 at-more places masks k = rw add-one
 
+-- bits behind spaces
+spaced : (bits : List (ℕ × ℕ)) → marked space bits ≡ flatMap (λ (b : ℕ × ℕ). space ∷ told b) bits
+unfolding marked flatMap
+spaced [] = refl
+spaced (b ∷ bits) = ap (λ (l : List ℕ). space ∷ (told b ++ l)) (spaced bits)
+
 -- where the mark is still the tab there was no bit
 pub dashed : (bits : List (ℕ × ℕ)) → nextMark tabByte bits ≡ tabByte → marked tabByte bits ++ (tabByte ∷ dash ∷ []) ≡ column bits
-unfolding marked column
+unfolding marked bitsTold
 dashed [] e = refl
 dashed (b ∷ bits) e = absurd (omega (arith, e))
 
 pub undashed : (bits : List (ℕ × ℕ)) → (nextMark tabByte bits ≡ tabByte → ⊥) → marked tabByte bits ≡ column bits
-unfolding column
+unfolding marked bitsTold
 undashed [] f = absurd (f refl)
-undashed (b ∷ bits) f = refl
+undashed (b ∷ bits) f = ap (λ (l : List ℕ). tabByte ∷ (told b ++ l)) (spaced bits)

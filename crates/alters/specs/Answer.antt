@@ -1,6 +1,6 @@
 -- The answer to one line, given without its line feed: its label, what rewriting its frame answers (number and length),
 -- and every bit that this alters.
-use Rattle.octets.specs.Words.{ℕ, List, [], _∷_, _++_}
+use Rattle.octets.specs.Words.{ℕ, List, [], _∷_, _++_, flatMap}
 use Rattle.octets.specs.{declared.Outcome.Outcome}
 use Rattle.line_cutter.specs.{Line.tabByte, Line.lineFeed}
 use Rattle.labelled.specs.{Answer.labelled, Decimal.decimal}
@@ -20,20 +20,14 @@ space = 32
 abbrev pub told : ℕ × ℕ → List ℕ
 told b = decimal (b .0) ++ (dot ∷ decimal (b .1))
 
--- bits, the first behind a given mark, each other behind a space
-unfoldable pub marked : ℕ → List (ℕ × ℕ) → List ℕ
-marked mark [] = []
-marked mark (b ∷ bits) = mark ∷ (told b ++ marked space bits)
+-- bits, parted by one space; a dash where there is none
+unfoldable pub bitsTold : List (ℕ × ℕ) → List ℕ
+bitsTold [] = dash ∷ []
+bitsTold (b ∷ bits) = told b ++ flatMap (λ (b : ℕ × ℕ). space ∷ told b) bits
 
--- the mark for the next bit
-abbrev pub nextMark : ℕ → List (ℕ × ℕ) → ℕ
-nextMark mark [] = mark
-nextMark mark (b ∷ bits) = space
-
--- the column of bits, behind its tab; a dash where there is none
-unfoldable pub column : List (ℕ × ℕ) → List ℕ
-column [] = tabByte ∷ dash ∷ []
-column (b ∷ bits) = marked tabByte (b ∷ bits)
+-- the column of bits, behind its tab
+abbrev pub column : List (ℕ × ℕ) → List ℕ
+column bits = tabByte ∷ bitsTold bits
 
 -- the columns of number and length, each behind its tab
 unfoldable pub outcomeTold : Outcome → List ℕ

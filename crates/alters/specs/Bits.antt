@@ -1,5 +1,5 @@
 -- The bits that masks stand for, each as the place of its byte and its number there, in order.
-use Rattle.octets.specs.Words.{ℕ, zero, suc, cond, List, [], _∷_, _++_, flatMap, getD}
+use Rattle.octets.specs.Words.{ℕ, zero, suc, cond, List, [], _∷_, _++_, flatMap}
 use Rattle.octets.specs.{Bits.bit}
 
 -- those below bit k of the byte at a place that are set in its mask
@@ -10,8 +10,3 @@ bitsBelow place mask (suc k) = bitsBelow place mask k ++ cond (bit mask k) ((pla
 -- all eight of each byte
 abbrev pub bitsOf : List (ℕ × ℕ) → List (ℕ × ℕ)
 bitsOf bytes = flatMap (λ (b : ℕ × ℕ). bitsBelow (b .0) (b .1) 8) bytes
-
--- the same of count bytes whose places and masks stand in two arrays
-unfoldable pub bitsAt : List ℕ → List ℕ → ℕ → List (ℕ × ℕ)
-bitsAt places masks zero = []
-bitsAt places masks (suc k) = bitsAt places masks k ++ bitsBelow (getD places k 0) (getD masks k 0) 8

@@ -8,8 +8,8 @@ use lib.ListN.{length}
 use Rattle.octets.proofs.Cases.{cases}
 use Rattle.labelled.specs.Put.{Put}
 use Rattle.labelled.proofs.Putting.{none, same}
-use Rattle.alters.specs.Answer.{marked, nextMark}
 use Rattle.alters.specs.Bits.{bitsBelow}
+use Rattle.alters.specs.Steps.{marked, nextMark}
 use Rattle.alters.proofs.Marks.{told-set, told-clear}
 use Rattle.alters.proofs.telling.put_mask.Statement.{statement}
 use Rattle.alters.proofs.telling.put_mask.Tie as tie

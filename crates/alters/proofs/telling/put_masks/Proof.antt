@@ -7,8 +7,8 @@ use borrow.Author.Needs.{needs}
 use lib.ListN.{length, getD}
 use Rattle.labelled.specs.Put.{Put}
 use Rattle.labelled.proofs.Putting.{none, same}
-use Rattle.alters.specs.Answer.{marked, nextMark}
-use Rattle.alters.specs.Bits.{bitsBelow, bitsAt}
+use Rattle.alters.specs.Bits.{bitsBelow}
+use Rattle.alters.specs.Steps.{bitsAt, marked, nextMark}
 use Rattle.alters.proofs.Marks.{told-on, mark-behind, at-more}
 use Rattle.alters.proofs.telling.put_masks.Statement.{statement}
 use Rattle.alters.proofs.telling.put_masks.Tie as tie
