@@ -6,7 +6,7 @@ use mathlib.Core.Bool.{Bool, true, false, true≢false, cond, not, _&&_}
 use mathlib.Core.List.{List, [], _∷_, _++_, append-assoc}
 use mathlib.Core.Path.{_≡_, refl, sym, ap, _∙_, subst}
 use borrow.Author.Tests.{ltb-true, ltb-false}
-use lib.Dec.{ltb}
+use lib.Dec.{ltb, eqb}
 use lib.ListN.{length, getD, take, drop, List·getD-append}
 use lib.Seq.{take-at, drop-at, getD-take, length-take-le}
 use Rattle.octets.specs.declared.Outcome.{Outcome}
@@ -20,7 +20,7 @@ use Rattle.header.specs.declared.HeaderRead.the-variants.{Read}
 use Rattle.header.specs.Read.{headerIn, readHeader}
 use Rattle.header_facts.specs.Rewritten.{lost}
 use Rattle.header_facts.proofs.Trip.{header-rewritten, unread}
-use Rattle.beacon.specs.Beacon.{beaconLengthIn, readBeacon, beaconBytes}
+use Rattle.beacon.specs.Beacon.{refuses, beaconLengthIn, readBeacon, beaconBytes}
 use Rattle.beacon_facts.specs.Cleared.{beaconCleared}
 use Rattle.beacon_facts.proofs.Trip.{beacon-rewritten}
 use Rattle.alterations.specs.Listed.{holdsBeacon, listed}
@@ -236,6 +236,7 @@ altering s m out y z e room =
     ap (take m) left ∙ take-at (frameCleared s) (drop m out) m size in
     record {
       within = within s m y e;
+      names = names s m y e;
       set = set s m y e;
       rising = subst Rising (sym (list s m y e)) (rising-altered s (listed s) (listed-rising s));
       exact = λ i b j k.
@@ -245,6 +246,7 @@ altering s m out y z e room =
       kept = ap (drop m) left ∙ drop-at (frameCleared s) (drop m out) m size;
       same = λ none. front ∙ same s m y e none;
       only = λ equal. only s m y e (sym front ∙ equal);
+      alone = ap (λ (o : Outcome). not (refuses o) && eqb (length (altered s)) 0) e;
       settled = ap alterations left ∙ settled s m y e (drop m out) (bytes-drop m out z);
       behind = behind s m y e;
       entries = entries-left s m out y (a s m y e) room ∙ sym left;
