@@ -46,16 +46,18 @@ takenWith r p j n =
 abbrev pub over : HeaderReader → PieceTaken
 over r = record { reader = r; answer = Over; used = 0 }
 
-unfoldable pub taken : HeaderReader → List ℕ → PieceTaken
-taken r p = cond (waits r) (takenWith r p (seen r ++ p) (awaitedWith (r .awaited) (seen r ++ p))) (over r)
-
--- the end: 1 where it waits, and nothing more is awaited
-unfoldable pub ended : HeaderReader → PieceTaken
-ended r =
-    cond (waits r)
-    (record {
+-- 1, nothing more awaited
+abbrev pub cutShort : HeaderReader → PieceTaken
+cutShort r =
+    record {
       reader = record { bytes = r .bytes; count = r .count; awaited = r .count };
       answer = Refused Ended;
       used = 0;
-    })
-    (over r)
+    }
+
+-- a piece, and the end: 9 unless it waits
+unfoldable pub taken : HeaderReader → List ℕ → PieceTaken
+taken r p = cond (waits r) (takenWith r p (seen r ++ p) (awaitedWith (r .awaited) (seen r ++ p))) (over r)
+
+unfoldable pub ended : HeaderReader → PieceTaken
+ended r = cond (waits r) (cutShort r) (over r)

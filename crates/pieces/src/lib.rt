@@ -4,7 +4,7 @@ ghost use Prim.Native.Nat.{max};
 ghost use Rattle.octets.specs.Words.{_≤_, true, _≡_, length, take};
 ghost use Rattle.pieces.specs.Needed.{controlUnseen, needed};
 ghost use Rattle.pieces.specs.Answer.{told, pieceOutcome};
-ghost use Rattle.pieces.specs.Reader.{headerMost, newReader, waits, over, taken, ended};
+ghost use Rattle.pieces.specs.Reader.{headerMost, newReader, waits, over, cutShort, taken, ended};
 ghost use Rattle.pieces.specs.Steps.{gathered, spoken};
 use header::Header;
 use header::HeaderRead;
@@ -134,6 +134,20 @@ impl HeaderReader {
         }
     }
 
+    // The input ends before the bytes needed are there, and no more are awaited.
+    fn cut_short(self) -> PieceTaken
+        ensures { λ r. ⌜ r ≡ cutShort self ⌝ }
+    {
+        PieceTaken {
+            reader: HeaderReader {
+                awaited: self.count,
+                ..self
+            },
+            answer: PieceAnswer::Refused(HeaderRefusal::Ended),
+            used: 0,
+        }
+    }
+
     // Takes bytes of a piece up to the last one needed. Asks that it waits.
     fn gather(self, piece: &[u8]) -> Self
         requires { ⌜ waits self ≡ true ⌝ }
@@ -180,10 +194,11 @@ impl HeaderReader {
             return self.over();
         }
         let next = self.gather(piece);
+        let used = next.count - self.count;
         PieceTaken {
             reader: next,
             answer: next.say(),
-            used: next.count - self.count,
+            used,
         }
     }
 
@@ -194,13 +209,6 @@ impl HeaderReader {
         if !self.waits() {
             return self.over();
         }
-        PieceTaken {
-            reader: HeaderReader {
-                awaited: self.count,
-                ..self
-            },
-            answer: PieceAnswer::Refused(HeaderRefusal::Ended),
-            used: 0,
-        }
+        self.cut_short()
     }
 }

@@ -11,9 +11,9 @@ over : tie.Need-returns
 unfolding ended
 over c = let t = c .before in simp (sym (t .before .waits .ensures) ∙ not-true _ (t .if1 .taken)) (c .over .ensures)
 
-told : tie.Need-returns-2
+cut-short : tie.Need-returns-2
 unfolding ended
-told c = let t = c .before in simp (sym (t .before .waits .ensures) ∙ not-false _ (t .if1 .left))
+cut-short c = let t = c .before in simp (sym (t .before .waits .ensures) ∙ not-false _ (t .if1 .left)) (c .cut-short .ensures)
 
 pub end-spec : {M : Type 1} → statement M
-end-spec = tie.close (tie.spec (λ c κs. search needs) (λ c κs. search needs) over told)
+end-spec = tie.close (tie.spec (λ c κs. search needs) (λ c κs. search needs) over (λ c κs. search needs) cut-short)

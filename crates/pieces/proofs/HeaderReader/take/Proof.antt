@@ -23,9 +23,9 @@ waiting c = sym (c .before .waits .ensures) ∙ not-false _ (c .if1 .left)
 whole : (c : tie.Else1) → length (c .before .before .before .args .self .bytes) ≡ 37
 whole c = let a = c .before .before .before in mapped _ (a .args .self .bytes) 37 (a .good .0 .1 .1 .0 .1 .0 .1)
 
-more : tie.Need-sub-t7
+more : tie.Need-sub-used
 more c =
-    let g = c .before .before .before in
+    let g = c .before .before in
     let e = g .before in
     let a = e .before .before .before .args in
     rw (g .gather .ensures .0) (gathered-more (a .self) (now (a .piece)) (whole e) (waiting e))
@@ -37,7 +37,7 @@ told c =
     let a = e .before .before .before .args in
     (λ i. record {
       reader = g .gather .ensures .0 i;
-      answer = (c .before .before .say .ensures ∙ ap spoken (g .gather .ensures .0)) i;
+      answer = (c .say .ensures ∙ ap spoken (g .gather .ensures .0)) i;
       used = g .gather .ensures .0 i .count - a .self .count;
     })
     ∙ sym (taken-waiting (a .self) (now (a .piece)) (whole e) (waiting e))
@@ -45,4 +45,5 @@ told c =
 pub take-spec : {M : Type 1} → statement M
 take-spec =
     tie.close
-    (tie.spec (λ c κs. search needs) (λ c κs. search needs) over (λ c κs. waiting c) (λ c κs. c .gather .ensures .1) more told)
+    (tie.spec (λ c κs. search needs) (λ c κs. search needs) over (λ c κs. waiting c) more
+    (λ c κs. c .before .before .gather .ensures .1) told)
