@@ -95,10 +95,10 @@ fn awaited_with(bytes: &[u8], count: usize) -> usize
     if control_unseen(count, w) {
         return source_end(w) + 1;
     }
-    if whole.length < count {
-        return count;
+    if count < whole.length {
+        return whole.length;
     }
-    whole.length
+    count
 }
 
 impl HeaderReader {
@@ -190,16 +190,16 @@ impl HeaderReader {
     pub fn take(self, piece: &[u8]) -> PieceTaken
         ensures { λ r. ⌜ r ≡ taken self (now (piece .entry)) ⌝ }
     {
-        if !self.waits() {
-            return self.over();
+        if self.waits() {
+            let next = self.gather(piece);
+            let used = next.count - self.count;
+            return PieceTaken {
+                reader: next,
+                answer: next.say(),
+                used,
+            };
         }
-        let next = self.gather(piece);
-        let used = next.count - self.count;
-        PieceTaken {
-            reader: next,
-            answer: next.say(),
-            used,
-        }
+        self.over()
     }
 
     // No more is coming.

@@ -77,22 +77,22 @@ seen c =
     let end = u .before .before .before .measure-header .result .length in
     needs-by (c .before) ∙ ap (λ (t : Bool). cond t (sourceEnd (u .u16-at .result) + 1) end) (c .if3 .left)
 
-larger : tie.Need-returns-4
-larger c =
-    let e = c .before .before in
-    let a = e .before .before .before .before .before .before .before .before in
-    (omega (arith, seen e, c .if4 .taken), a .pre .1)
-
-whole : tie.Need-returns-5
-whole c =
+longer : tie.Need-returns-4
+longer c =
     let e = c .before .before in
     let m = e .before .before .before .before .before in
     let most = measured-most (now (m .before .before .before .args .bytes)) .1 in
     let told = ap (λ (o : Outcome). o .length) (m .measure-header .ensures) in
-    (omega (arith, seen e, c .if4 .left), omega (arith, most, told))
+    (omega (arith, seen e, c .if4 .taken), omega (arith, most, told))
+
+enough : tie.Need-returns-5
+enough c =
+    let e = c .before .before in
+    let a = e .before .before .before .before .before .before .before .before in
+    (omega (arith, seen e, c .if4 .left), a .pre .1)
 
 pub awaited-with-spec : {M : Type 1} → statement M
 awaited-with-spec =
     tie.close
     (tie.spec few (λ c κs. search needs) refused (λ c κs. search needs) (λ c. search needs) (λ c κs. search needs) (λ c κs. search needs)
-    (λ c. search needs) unseen larger whole)
+    (λ c. search needs) unseen longer enough)

@@ -4,7 +4,6 @@ use Prim.Native.Nat.{_-_}
 use mathlib.Core.Bool.{true}
 use mathlib.Core.Path.{_≡_, sym, ap, _∙_}
 use borrow.Author.Needs.{needs}
-use borrow.Author.Tests.{not-true, not-false}
 use denote.Ref.{now}
 use lib.ListN.{length}
 use Rattle.pieces.specs.Reader.{waits, taken}
@@ -13,14 +12,10 @@ use Rattle.pieces.proofs.Growing.{mapped, taken-waiting, gathered-more}
 use Rattle.pieces.proofs.HeaderReader.take.Statement.{statement}
 use Rattle.pieces.proofs.HeaderReader.take.Tie as tie
 
-over : tie.Need-returns
-unfolding taken
-over c = let t = c .before in simp (sym (t .before .waits .ensures) ∙ not-true _ (t .if1 .taken)) (c .over .ensures)
+waiting : (c : tie.Then1) → waits (c .before .before .before .args .self) ≡ true
+waiting c = sym (c .before .waits .ensures) ∙ c .if1 .taken
 
-waiting : (c : tie.Else1) → waits (c .before .before .before .args .self) ≡ true
-waiting c = sym (c .before .waits .ensures) ∙ not-false _ (c .if1 .left)
-
-whole : (c : tie.Else1) → length (c .before .before .before .args .self .bytes) ≡ 37
+whole : (c : tie.Then1) → length (c .before .before .before .args .self .bytes) ≡ 37
 whole c = let a = c .before .before .before in mapped _ (a .args .self .bytes) 37 (a .good .0 .1 .1 .0 .1 .0 .1)
 
 more : tie.Need-sub-used
@@ -30,7 +25,7 @@ more c =
     let a = e .before .before .before .args in
     rw (g .gather .ensures .0) (gathered-more (a .self) (now (a .piece)) (whole e) (waiting e))
 
-told : tie.Need-returns-2
+told : tie.Need-returns
 told c =
     let g = c .before .before .before in
     let e = g .before in
@@ -42,8 +37,11 @@ told c =
     })
     ∙ sym (taken-waiting (a .self) (now (a .piece)) (whole e) (waiting e))
 
+over : tie.Need-returns-2
+unfolding taken
+over c = let t = c .before in simp (sym (t .before .waits .ensures) ∙ t .if1 .left) (c .over .ensures)
+
 pub take-spec : {M : Type 1} → statement M
 take-spec =
     tie.close
-    (tie.spec (λ c κs. search needs) (λ c κs. search needs) over (λ c κs. waiting c) more
-    (λ c κs. c .before .before .gather .ensures .1) told)
+    (tie.spec (λ c κs. search needs) (λ c κs. waiting c) more (λ c κs. c .before .before .gather .ensures .1) told (λ c κs. search needs) over)
