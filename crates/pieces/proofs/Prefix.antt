@@ -20,7 +20,7 @@ use Rattle.header_bytes.proofs.Sizes.{source-end, header-end, control-inside}
 use Rattle.pieces.specs.Needed.{controlUnseen, needed}
 
 -- each of two tests that hold together
-both : (a b : Bool) → (a && b) ≡ true → (a ≡ true) × (b ≡ true)
+pub both : (a b : Bool) → (a && b) ≡ true → (a ≡ true) × (b ≡ true)
 both true b e = (refl, e)
 both false b e = absurd (true≢false (sym e))
 
@@ -134,7 +134,7 @@ longer s t = omega (arith, length-append s t)
 -- Bytes t behind s, with the frame control w.
 module _ (s t : List ℕ) (w : ℕ) where
   -- they alter nothing where the security control is seen, or there is none
-  seen-more : controlUnseen (length s) w ≡ false → neededRest (s ++ t) w ≡ neededRest s w
+  pub seen-more : controlUnseen (length s) w ≡ false → neededRest (s ++ t) w ≡ neededRest s w
   seen-more seen =
       cases (holds? (bit w 3))
       (λ on.
