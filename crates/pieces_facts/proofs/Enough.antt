@@ -1,5 +1,5 @@
--- What the whole reader says of bytes s, by how many of them are needed: 1 where one is missing, else the refusal of the frame control, which
--- three bytes tell, or the header, which is so long.
+-- What the whole reader says of bytes s, by how many of them are needed: 1 where one is missing, else the refusal of the frame control,
+-- which three bytes tell, or the header, which is so long.
 -- Assumes nothing.
 use Prim.Native.Nat.{ℕ, _+_, _≤_, _<_}
 use native.Mathlib.Omega.{arith}

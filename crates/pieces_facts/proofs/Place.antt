@@ -10,7 +10,7 @@ use Rattle.header.specs.Read.{readHeader}
 use Rattle.pieces.specs.declared.HeaderReader.{HeaderReader}
 use Rattle.pieces.specs.Needed.{needed}
 use Rattle.pieces.specs.Answer.{told}
-use Rattle.pieces.specs.Reader.{newReader, waits}
+use Rattle.pieces.specs.Reader.{newReader}
 use Rattle.pieces.proofs.Prefix.{needed-settled, needed-grows}
 use Rattle.pieces_facts.specs.Calls.{piece, behind, pieces, joined}
 use Rattle.pieces_facts.specs.Whole.{InPlace}
@@ -42,7 +42,7 @@ module _ (ps : List (List ℕ)) (p : List ℕ) (qs : List (List ℕ)) where
   long : length with ≡ length front + length p
   long = length-append front p
 
-  -- One is missing of the bytes up to a place where it lies behind that place. Where all are there, so are number and answer.
+  -- Of the bytes up to a place one is missing where the last byte needed lies behind it. Else number and answer are those of all bytes.
   front-missing : length front < needed all → length front < needed front
   front-missing h = needed-missing front (p ++ joined qs) (omega (arith, ap needed behind-front))
 

@@ -22,7 +22,7 @@ use Rattle.pieces.specs.declared.PieceAnswer.the-variants.{More}
 use Rattle.pieces.specs.declared.PieceTaken.{PieceTaken}
 use Rattle.pieces.specs.Needed.{needed}
 use Rattle.pieces.specs.Answer.{told}
-use Rattle.pieces.specs.Reader.{newReader, waits, taken, ended}
+use Rattle.pieces.specs.Reader.{newReader, taken, ended}
 use Rattle.pieces.proofs.Prefix.{needed-settled, needed-grows}
 use Rattle.pieces_facts.specs.Calls.{Call, piece, end, handed, behind, run, pieces, joined, final, finals, usedSum}
 use Rattle.pieces_facts.specs.Whole.{usedFor, AsWhole}
@@ -128,8 +128,7 @@ pieces-finals r b (p ∷ ps) st h =
     let on = stands-next r b st p in
     let rest = run (t .reader) (pieces ps) in
     cases (missing? j)
-    (λ missing.
-    finals-more t rest (taken-more r b st p h missing) ∙ pieces-finals (t .reader) j ps on missing)
+    (λ missing. finals-more t rest (taken-more r b st p h missing) ∙ pieces-finals (t .reader) j ps on missing)
     (λ there.
     finals-told t rest (readHeader j) (taken-told r b st p h there)
     ∙ ap (λ (l : List PieceAnswer). told (readHeader j) ∷ l) (finals-over (t .reader) (pieces ps) (stands-over (t .reader) j on there))
