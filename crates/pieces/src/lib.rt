@@ -113,6 +113,8 @@ impl HeaderReader {
         }
     }
 
+    // It awaits more bytes than it has, and no more than it holds. Any other has given its answer, or is one that no
+    // calls lead to.
     fn waits(self) -> bool
         ensures { λ r. ⌜ r ≡ waits self ⌝ }
     {
