@@ -1,0 +1,4 @@
+pub mod Needed
+pub mod Answer
+pub mod Reader
+pub mod Steps
