@@ -33,22 +33,23 @@ struct Calls {
     good: bool,
 }
 
-impl Calls {
-    // There was none yet.
-    fn none() -> Self {
-        Calls {
-            count: 0,
-            used: 0,
-            answering: 0,
-            outcome: Outcome::accepted(0),
-            bytes: [0; HEADER_MOST],
-            written: 0,
-            nines: 0,
-            good: false,
-        }
-    }
+// There was none yet.
+const NONE: Calls = Calls {
+    count: 0,
+    used: 0,
+    answering: 0,
+    outcome: Outcome {
+        number: 0,
+        length: 0,
+    },
+    bytes: [0; HEADER_MOST],
+    written: 0,
+    nines: 0,
+    good: false,
+};
 
-    // The answer, of a record that is written again with the counter that was read, as far as that is not refused.
+impl Calls {
+    // With a record written again, with the counter that was read: no bytes where that is refused.
     fn written(self, header: Header) -> Self {
         let security = header.auxiliary_security_header;
         let mut bytes = [0u8; HEADER_MOST];
@@ -90,7 +91,7 @@ impl Calls {
 fn take_pieces(line: &[u8], from: usize, values: &[u16; 256]) -> Calls {
     let mut piece = [0u8; FRAME_MOST];
     let mut reader = HeaderReader::new();
-    let mut calls = Calls::none();
+    let mut calls = NONE;
     let mut at = from;
     for _ in 0..LINE_MOST {
         let n = decode_by(line, at, values, &mut piece);

@@ -27,7 +27,7 @@ few n table s out at e = omega (arith, length-take (length out) (unhexBy table (
 held : (c : tie.After-decode-by Inv-loop μ-loop) → c .decode-by .result ≤ length (c .decode-by .last .1 .1 .1 .0)
 held c =
     let l = c .before .before .before in
-    let a = l .before .before .before .before .args in
+    let a = l .before .before .before .args in
     omega (
       arith,
       few (c .decode-by .result) (a .values .now) (a .line .now) (l .loop .piece) (l .loop .at) (c .decode-by .ensures .0),
@@ -37,7 +37,7 @@ held c =
 pub take-pieces-spec : {M : Type 1} → statement M
 take-pieces-spec =
     tie.close
-    (tie.spec Inv-loop μ-loop (λ c κs. search needs) (λ c κs. search needs) (λ c. search needs) (λ c. search needs)
+    (tie.spec Inv-loop μ-loop (λ c κs. search needs) (λ c. search needs) (λ c. search needs)
     (λ c κs. search needs) (λ c. held (c .before)) (λ c. sym (length-take-le _ _ (held (c .before .before))))
     (λ c κs. search needs) (λ c κs. search needs) (λ c. omega (arith, held (c .before .before .before .before .before)))
     (λ c κs. search needs) (λ c κs. search needs) (λ c κs. search needs) (λ c. search needs) (λ c. search needs)
