@@ -15,7 +15,7 @@ use octets::Outcome;
 use octets::u16_at;
 
 // The longest header.
-const HEADER_MOST: usize = 37;
+pub const HEADER_MOST: usize = 37;
 
 // The bytes seen so far, their count, and how many it awaits: it looks at them once so many are there. It waits as long
 // as it awaits more than it has.

@@ -12,12 +12,10 @@ use octets::Outcome;
 use octets::behind;
 use octets::copy;
 use octets::u8_at;
+use pieces::HEADER_MOST;
 use pieces::HeaderReader;
 use pieces::PieceAnswer;
 use std::num::wrapping_add_usize;
-
-// The longest header.
-const HEADER_MOST: usize = 37;
 
 // What the calls have answered: how many there were, and how many bytes they used; which of them gave the answer, its
 // number and length, and the record written again, so many bytes; and how many were answered 9. And whether all pieces
