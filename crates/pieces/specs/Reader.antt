@@ -1,5 +1,5 @@
--- The reader that takes a header in pieces: what it hands back to a piece and to the end, by the bytes that it has seen
--- and those of the piece joined to them.
+-- The reader that takes a header in pieces (document 02, request 1): what it hands back to a piece and to the end, by
+-- the bytes that it has seen and those of the piece joined to them.
 use Prim.Native.Nat.{max}
 use Rattle.octets.specs.Words.{ℕ, _-_, min, Bool, cond, _&&_, List, _++_, ltb, leb, length, take, replicate}
 use Rattle.octets.specs.{Buffer.laid}

@@ -1,4 +1,5 @@
--- Calls of a reader, one after the other, and what they hand back.
+-- Calls of a reader, one after the other, and what they hand back (document 02, request 1: "for each way of cutting the
+-- input").
 use Rattle.octets.specs.Words.{ℕ, _+_, Bool, true, false, cond, List, [], _∷_, map, flatMap}
 use Rattle.pieces.specs.declared.{HeaderReader.HeaderReader, PieceAnswer.PieceAnswer, PieceTaken.PieceTaken}
 use Rattle.pieces.specs.declared.PieceAnswer.the-variants.{More, Done, Refused, Over}

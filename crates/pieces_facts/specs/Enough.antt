@@ -1,5 +1,5 @@
--- That `needed` counts the bytes that the whole reader's answer needs: with them the answer stands, whatever follows,
--- and with fewer it does not.
+-- That `needed` counts the bytes that the whole reader's answer needs (document 02, request 1: "with the last byte
+-- needed"): with them the answer stands, whatever follows, and with fewer it does not.
 use Rattle.octets.specs.Words.{ℕ, _≤_, _<_, List, _++_, _≡_, length, take}
 use Rattle.header.specs.{declared.Header.Header, declared.HeaderRefusal.HeaderRefusal, Read.readNumber, Read.readHeader}
 use Rattle.header.specs.declared.HeaderRead.the-variants.{Read, Refused}
