@@ -173,7 +173,7 @@ module _ (s : List ℕ) (m : ℕ) (y : Bytes s) (e : rewriteFrame s ≡ accepted
         let bytes : t ≡ headerCleared s ++ (beaconBytes (readBeacon s n .beacon) ++ more) =
         parts ∙ ap (λ (c : Bool). headerCleared s ++ (cond c (beaconCleared s n) [] ++ more)) on
         ∙ ap (λ (l : List ℕ). headerCleared s ++ (l ++ more)) (sym (trip .written)) in
-        (λ i. readBeacon (bytes i) (sym size i)) ∙ trip .again (headerCleared s) more (omega arith) ∙ sym answer
+        (λ i. readBeacon (bytes i) (sym size i)) ∙ trip .again (headerCleared s) more ∙ sym answer
 
     alike-again : Alike s t
     alike-again = alike-read s t h (lost h) n header reread (same-lost h) rebeacon

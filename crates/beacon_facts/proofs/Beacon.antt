@@ -1,7 +1,6 @@
--- Demand 3 of a whole beacon, from that of its parts, and its length. The pending header supplies the byte that the GTS reader wants to see
--- and does not take, so a beacon is refused exactly where its bytes are not all there.
+-- Demand 3 of a whole beacon, from that of its parts, and its length: it is refused exactly where its bytes are not all there.
 -- Assumes nothing.
-use Prim.Native.Nat.{ℕ, zero, suc, _+_, _-_, _≤_}
+use Prim.Native.Nat.{ℕ, _+_, _-_, _≤_}
 use native.Mathlib.Omega.{arith}
 use mathlib.Core.Bool.{false}
 use mathlib.Core.List.{List, [], _∷_, _++_}
@@ -17,9 +16,9 @@ use Rattle.octets.proofs.Little.{bytes-append}
 use Rattle.octets.proofs.Cases.{cases, holds?}
 use Rattle.superframe.specs.Superframe.{superframeIn, readSuperframe, superframeBytes}
 use Rattle.superframe.proofs.Superframe.{superframe-length, superframe-read}
-use Rattle.time_slots.specs.TimeSlots.{slotsLength, slotsDemand, slotCountIn, timeSlotsIn, timeSlotsLengthIn, readTimeSlots, timeSlotsBytes}
+use Rattle.time_slots.specs.TimeSlots.{slotCountIn, timeSlotsIn, timeSlotsLengthIn, readTimeSlots, timeSlotsBytes}
 use Rattle.time_slots.specs.TimeSlots.{timeSlotsSize}
-use Rattle.time_slots.proofs.TimeSlots.{demand-enough, time-slots-length, time-slots-read}
+use Rattle.time_slots.proofs.TimeSlots.{time-slots-length, time-slots-read}
 use Rattle.pending.specs.Pending.{shortCountIn, extendedCountIn, pendingIn, pendingLengthIn, readPending, pendingBytes}
 use Rattle.pending.proofs.Pending.{pending-read}
 use Rattle.beacon.specs.declared.Beacon.{Beacon}
@@ -44,26 +43,21 @@ use Rattle.beacon_facts.proofs.Pending.{pending-back-fits, pending-sett
 -- each part was there
 pub record Found (s : List ℕ) (at : ℕ) : Type 0 where
   pub superframe : 2 ≤ length s - at
-  pub slots : 1 + slotsDemand (slotCountIn s (at + 2)) ≤ length s - (at + 2)
+  pub slots : timeSlotsLengthIn s (at + 2) ≤ length s - (at + 2)
   pub pending : pendingLengthIn s (pendingPlace s at) ≤ length s - pendingPlace s at
-
--- the GTS reader wants to see at most one byte that it does not take
-demand-spare : (n : ℕ) → slotsDemand n ≤ slotsLength n + 1
-demand-spare zero = omega arith
-demand-spare (suc n) = omega arith
 
 module _ (s : List ℕ) (at : ℕ) where
   found-all : beaconLengthIn s at ≤ length s - at → Found s at
   unfolding beaconLengthIn
   found-all h = record {
     superframe = omega arith;
-    slots = omega (arith, demand-spare (slotCountIn s (at + 2)));
+    slots = omega arith;
     pending = omega arith;
   }
 
   pub all-found : Found s at → beaconLengthIn s at ≤ length s - at
   unfolding beaconLengthIn
-  all-found h = omega (arith, h .superframe, h .slots, h .pending, demand-enough (slotCountIn s (at + 2)))
+  all-found h = omega (arith, h .superframe, h .slots, h .pending)
 
   -- it is refused, or each part was there
   refused-or-found : (readBeacon s at ≡ beaconRefused)
@@ -114,9 +108,6 @@ module _ (s : List ℕ) (at : ℕ) where
 
   -- the beacon at a place: fits, and is written as it stood
   module _ (found : Found s at) where
-    slots-there : timeSlotsLengthIn s (at + 2) ≤ length s - (at + 2)
-    slots-there = omega (arith, found .slots, demand-enough (slotCountIn s (at + 2)))
-
     beacon-fits : beaconTooLarge (beaconIn s at) ≡ false
     unfolding beaconTooLarge beaconIn
     beacon-fits = rw (superframe-fits s at, time-slots-fit s (at + 2), pending-fits s (pendingPlace s at))
@@ -135,8 +126,8 @@ module _ (s : List ℕ) (at : ℕ) where
         rw (
           superframe-again s at b (found .superframe),
           superframe-listed s at (found .superframe),
-          time-slots-again s (at + 2) slots-there b,
-          time-slots-listed s (at + 2) slots-there,
+          time-slots-again s (at + 2) (found .slots) b,
+          time-slots-listed s (at + 2) (found .slots),
           pending-again s (pendingPlace s at) (found .pending) b,
           pending-listed s (pendingPlace s at) (found .pending),
         )
@@ -144,20 +135,20 @@ module _ (s : List ℕ) (at : ℕ) where
 
     beacon-typed : Bytes s → beacon .Typed (beaconIn s at)
     unfolding beaconIn
-    beacon-typed b = (time-slots-typed s (at + 2) slots-there b, pending-typed s (pendingPlace s at) (found .pending) b)
+    beacon-typed b = (time-slots-typed s (at + 2) (found .slots) b, pending-typed s (pendingPlace s at) (found .pending) b)
 
     module _ (t : List ℕ) where
       length-more : beaconLengthIn (s ++ t) at ≡ beaconLengthIn s at
       unfolding beaconLengthIn
-      length-more = rw (count-more s (at + 2) slots-there t, counts-more s (pendingPlace s at) (found .pending) t)
+      length-more = rw (count-more s (at + 2) (found .slots) t, counts-more s (pendingPlace s at) (found .pending) t)
 
       beacon-more : beaconIn (s ++ t) at ≡ beaconIn s at
       unfolding beaconIn
       beacon-more =
           rw (
             superframe-more s at t (found .superframe),
-            time-slots-more s (at + 2) slots-there t,
-            count-more s (at + 2) slots-there t,
+            time-slots-more s (at + 2) (found .slots) t,
+            count-more s (at + 2) (found .slots) t,
             pending-more s (pendingPlace s at) (found .pending) t,
           )
 
@@ -320,7 +311,7 @@ beacon-laws =
       bytes = beacon-bytes;
       returned = λ x typed f. record {
         long = beacon-length x typed f;
-        back = λ p t h. read-back x typed f p t;
+        back = read-back x typed f;
         fits = beacon-back-fits x typed f;
         settled = beacon-settled x typed f;
       };

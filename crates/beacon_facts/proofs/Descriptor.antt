@@ -125,7 +125,7 @@ descriptor-laws =
         long = descriptor-length x;
         fits = back-fits x f;
         settled = settled x;
-        back = λ p t h.
+        back = λ p t.
             accepts-there (p ++ (descriptorBytes x ++ t)) (length p)
             (rw (length-append p (descriptorBytes x ++ t), length-append (descriptorBytes x) t, descriptor-length x) (omega arith))
             ∙ ap (λ (x : GuaranteedTimeSlotDescriptor). descriptor .accepts x 3) (descriptor-back x p t (length p) Receive typed f refl);

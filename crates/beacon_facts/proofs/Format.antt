@@ -7,11 +7,12 @@ use mathlib.Core.List.{List, _++_}
 use mathlib.Core.Path.{_≡_, sym, ap, _∙_}
 use borrow.Author.Tests.{le-ltb}
 use lib.ListN.{length, take, drop}
+use lib.Seq.{length-take-le}
 use Rattle.octets.specs.Little.{Bytes}
 use Rattle.octets.proofs.Buffer.{laid-parts}
 use Rattle.octets.proofs.Little.{bytes-append}
 use Rattle.octets.specs.Value.{writeValue}
-use Rattle.beacon_facts.specs.Format.{Format, Rewritten, Returned}
+use Rattle.beacon_facts.specs.Format.{Format, Rewritten, Returned, FromBuffer}
 
 -- what is known of a value that was read
 pub record Taken {X R : Type 0} (F : Format X R) (s : List ℕ) (at : ℕ) (x : X) (n : ℕ) : Type 0 where
@@ -34,9 +35,9 @@ pub record Laws {X R : Type 0} (F : Format X R) : Type 0 where
   pub returned : (x : X) → F .Typed x → F .tooLarge x ≡ false → Returned F x
 
 module _ {X R : Type 0} (F : Format X R) (laws : Laws F) where
-  again : (s : List ℕ) (at : ℕ) (x : X) (n : ℕ) → Taken F s at x n → (p t : List ℕ) → F .spare x ≤ length t →
+  again : (s : List ℕ) (at : ℕ) (x : X) (n : ℕ) → Taken F s at x n → (p t : List ℕ) →
       F .read (p ++ (F .bytes x ++ t)) (length p) ≡ F .accepts x n
-  again s at x n k p t h = rw (k .same, k .size) at (laws .returned x (k .typed) (k .fits) .back p t h)
+  again s at x n k p t = rw (k .same, k .size) at (laws .returned x (k .typed) (k .fits) .back p t)
 
   pub rewritten : (s : List ℕ) (at : ℕ) (x : X) (n : ℕ) → Bytes s → F .read s at ≡ F .accepts x n → Rewritten F s at x n
   rewritten s at x n b e =
@@ -51,8 +52,16 @@ module _ {X R : Type 0} (F : Format X R) (laws : Laws F) where
             laid-parts out to (F .bytes x) (omega (arith, long))
             ∙ ap (λ (j : ℕ). take to out ++ (F .bytes x ++ drop (to + j) out)) long;
         again = again s at x n k;
-        settled = λ p t bp bt h.
+        settled = λ p t bp bt.
             sym (laws .taken (p ++ (F .bytes x ++ t)) (length p) x n
-            (bytes-append p (F .bytes x ++ t) bp (bytes-append (F .bytes x) t (laws .bytes x) bt)) (again s at x n k p t h) .written);
+            (bytes-append p (F .bytes x ++ t) bp (bytes-append (F .bytes x) t (laws .bytes x) bt)) (again s at x n k p t) .written);
         behind = k .behind;
       }
+
+  pub stored : FromBuffer F
+  stored x typed fits out to room =
+      let returned = laws .returned x typed fits in
+      let place : length (take to out) ≡ to = length-take-le to out (omega arith) in
+      rw (laws .writes x out to, fits, le-ltb (length out - to) (F .size x) (omega arith))
+      (rw (laid-parts out to (F .bytes x) (omega (arith, returned .long)))
+      (rw place at (returned .back (take to out) (drop (to + length (F .bytes x)) out))))

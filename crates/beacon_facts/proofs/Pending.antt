@@ -298,7 +298,7 @@ pending-laws =
         long = pending-length x typed f;
         fits = pending-back-fits x typed f;
         settled = pending-settled x typed f;
-        back = λ p t h.
+        back = λ p t.
             let shorts = shorts-stored x typed f p t (length p) refl in
             let extendeds = extendeds-stored x typed f p t (length p) refl in
             pending-accepts (p ++ (pendingBytes x ++ t)) (length p)

@@ -133,7 +133,7 @@ superframe-laws =
         long = superframe-length x;
         fits = f;
         settled = refl;
-        back = λ p t h.
+        back = λ p t.
             superframe-accepts (p ++ (superframeBytes x ++ t)) (length p)
             (rw (length-append p (superframeBytes x ++ t), length-append (superframeBytes x) t, superframe-length x) (omega arith))
             ∙ ap (λ (x : SuperframeSpecification). superframe .accepts x 2) (superframe-back x p t (length p) f refl);

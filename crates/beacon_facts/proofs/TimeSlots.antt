@@ -27,10 +27,10 @@ use Rattle.time_slots.specs.Descriptor.{emptyDescriptor, descriptorIn, descript
 use Rattle.time_slots.proofs.Descriptor.{descriptor-length}
 use Rattle.time_slots.specs.declared.GuaranteedTimeSlotInformation.{GuaranteedTimeSlotInformation}
 use Rattle.time_slots.specs.declared.TimeSlotsRead.{TimeSlotsRead}
-use Rattle.time_slots.specs.TimeSlots.{slotsLength, slotsDemand, slotAt, slotsIn, slotCountIn, timeSlotsIn, timeSlotsLengthIn}
+use Rattle.time_slots.specs.TimeSlots.{slotsLength, slotAt, slotsIn, slotCountIn, timeSlotsIn, timeSlotsLengthIn}
 use Rattle.time_slots.specs.TimeSlots.{readTimeSlots, directionsOf, listBytes, timeSlotsHeader, timeSlotsBytes, timeSlotsSize}
 use Rattle.time_slots.specs.TimeSlots.{timeSlotsTooLarge, writeTimeSlots}
-use Rattle.time_slots.proofs.TimeSlots.{length-some, demand-enough, direction-small, directions-small, list-some, fitting, time-slots-length}
+use Rattle.time_slots.proofs.TimeSlots.{length-some, direction-small, directions-small, list-some, fitting, time-slots-length}
 use Rattle.time_slots.proofs.TimeSlots.{time-slots-read}
 use Rattle.beacon_facts.specs.Formats.{timeSlots, DescriptorTyped, TimeSlotsTyped, timeSlotsReadBack}
 use Rattle.beacon_facts.proofs.Format.{Writes, Laws}
@@ -289,10 +289,10 @@ module _ (x : GuaranteedTimeSlotInformation) (typed : TimeSlotsTyped x) (f : tim
   unfolding timeSlotsBytes
   time-slots-settled = rw slots-in-use
 
-pub time-slots-accepts : (s : List ℕ) (at : ℕ) → 1 + slotsDemand (slotCountIn s at) ≤ length s - at →
+pub time-slots-accepts : (s : List ℕ) (at : ℕ) → timeSlotsLengthIn s at ≤ length s - at →
     readTimeSlots s at ≡ timeSlots .accepts (timeSlotsIn s at) (timeSlotsLengthIn s at)
 unfolding readTimeSlots
-time-slots-accepts s at h = rw (le-ltb (length s - at) 1 (omega arith), le-ltb (length s - at) (1 + slotsDemand (slotCountIn s at)) h)
+time-slots-accepts s at h = rw (le-ltb (length s - at) 1 (omega arith), le-ltb (length s - at) (timeSlotsLengthIn s at) h)
 
 size-in : (s : List ℕ) (at : ℕ) → timeSlotsSize (timeSlotsIn s at) ≡ timeSlotsLengthIn s at
 unfolding timeSlotsIn
@@ -311,7 +311,7 @@ time-slots-laws =
           let told = sym (found .0) ∙ e in
           let value : timeSlotsIn s at ≡ x = ap (λ (r : TimeSlotsRead). r .«guaranteed_time_slot_info») told in
           let count : timeSlotsLengthIn s at ≡ n = ap (λ (r : TimeSlotsRead). r .outcome .length) told in
-          let there : timeSlotsLengthIn s at ≤ length s - at = omega (arith, found .1, demand-enough (slotCountIn s at)) in
+          let there = found .1 in
           rw (sym value, sym count)
           (record {
             typed = time-slots-typed s at there b;
@@ -321,7 +321,7 @@ time-slots-laws =
             within = there;
             written = time-slots-again s at there b ∙ time-slots-listed s at there;
             behind = λ t.
-                time-slots-accepts (s ++ t) at (rw (length-append s t, count-more s at there t) (omega (arith, found .1)))
+                time-slots-accepts (s ++ t) at (rw (length-append s t, count-more s at there t) (omega (arith, there)))
                 ∙ rw (time-slots-more s at there t, count-more s at there t);
           });
       bytes = time-slots-bytes;
@@ -329,12 +329,12 @@ time-slots-laws =
         long = time-slots-length x (typed .0) f;
         fits = time-slots-back-fits x typed f;
         settled = time-slots-settled x typed f;
-        back = λ p t h.
+        back = λ p t.
             let count = count-stored x typed f p t (length p) refl in
             let long = time-slots-length x (typed .0) f in
             time-slots-accepts (p ++ (timeSlotsBytes x ++ t)) (length p)
             (rw (count, length-append p (timeSlotsBytes x ++ t), length-append (timeSlotsBytes x) t, long)
-            (omega (arith, h, demand-enough (x .«slot_count»))))
+            (omega arith))
             ∙ rw (time-slots-back x typed f p t (length p) refl, count);
       };
     }

@@ -16,10 +16,10 @@ use Rattle.time_slots.specs.TimeSlots.{slotsLength, slotCountIn}
 use Rattle.beacon.specs.declared.Beacon.{Beacon}
 use Rattle.beacon.specs.declared.BeaconRead.{BeaconRead}
 use Rattle.beacon.specs.Beacon.{beaconLengthIn, beaconAccepted, readBeacon, beaconBytes, writeBeacon}
-use Rattle.beacon_facts.specs.Format.{FromBytes, FromRecord}
+use Rattle.beacon_facts.specs.Format.{FromBytes, FromRecord, FromBuffer}
 use Rattle.beacon_facts.specs.RoundTrip.{RoundTrip, beaconAfter}
 use Rattle.beacon_facts.specs.Formats.{superframe, descriptor, timeSlots, pending, beacon}
-use Rattle.beacon_facts.proofs.Format.{rewritten}
+use Rattle.beacon_facts.proofs.Format.{rewritten, stored}
 use Rattle.beacon_facts.proofs.Superframe.{superframe-laws}
 use Rattle.beacon_facts.proofs.Descriptor.{descriptor-laws}
 use Rattle.beacon_facts.proofs.TimeSlots.{time-slots-laws, few-length}
@@ -43,6 +43,9 @@ time-slots-rewritten = rewritten timeSlots time-slots-laws
 
 pub time-slots-returned : FromRecord timeSlots
 time-slots-returned = time-slots-laws .returned
+
+pub time-slots-stored : FromBuffer timeSlots
+time-slots-stored = stored timeSlots time-slots-laws
 
 pub pending-rewritten : FromBytes pending
 pending-rewritten = rewritten pending pending-laws
@@ -92,7 +95,7 @@ round-trip s at x n out to b e room =
       accepted = accepted;
       long = ap length (sym (trip .written)) ∙ trip .long;
       stored = parted ∙ ap (λ (l : List ℕ). take to out ++ (l ++ drop (to + n) out)) (trip .written);
-      again = rw parted (rw place at (trip .again (take to out) (drop (to + n) out) (omega arith)));
+      again = rw parted (rw place at (trip .again (take to out) (drop (to + n) out)));
       once-more = once-more;
       settled =
           after-stored x n (beaconAfter x out to) to once-more

@@ -2,7 +2,7 @@
 -- written.
 use Rattle.octets.specs.Words.{ℕ, _+_, _-_, _≤_, Bool, false, List, _++_, _≡_, length, take, drop}
 use Rattle.octets.specs.declared.{ValueWritten.ValueWritten}
-use Rattle.octets.specs.{Buffer.laid, Little.Bytes}
+use Rattle.octets.specs.{Buffer.laid, Buffer.after, Little.Bytes, Value.valueOutcome}
 use Rattle.octets.specs.declared.ValueWritten.the-variants.{Written}
 
 -- the definitions of one part: values X, reader's answers R
@@ -15,8 +15,6 @@ pub record Format (X R : Type 0) : Type 1 where
   pub tooLarge : X → Bool
   pub bytes : X → List ℕ
   pub size : X → ℕ
-  -- how many bytes more than it takes the reader wants to see behind them
-  pub spare : X → ℕ
   -- the bytes that stand at a place, with the bits cleared that are not read
   pub cleared : List ℕ → ℕ → List ℕ
   -- a value as it is read back, its unused places empty
@@ -36,10 +34,9 @@ pub record Rewritten {X R : Type 0} (F : Format X R) (s : List ℕ) (at : ℕ) (
   pub buffer : (out : List ℕ) (to : ℕ) → to + n ≤ length out →
       laid out to (F .bytes x) ≡ take to out ++ (F .bytes x ++ drop (to + n) out)
   -- read again, whatever stands before and behind, it is x and as long
-  pub again : (p t : List ℕ) → F .spare x ≤ length t → F .read (p ++ (F .bytes x ++ t)) (length p) ≡ F .accepts x n
+  pub again : (p t : List ℕ) → F .read (p ++ (F .bytes x ++ t)) (length p) ≡ F .accepts x n
   -- and a second writing changes nothing
-  pub settled : (p t : List ℕ) → Bytes p → Bytes t → F .spare x ≤ length t →
-      F .cleared (p ++ (F .bytes x ++ t)) (length p) ≡ F .bytes x
+  pub settled : (p t : List ℕ) → Bytes p → Bytes t → F .cleared (p ++ (F .bytes x ++ t)) (length p) ≡ F .bytes x
   -- bytes behind alter nothing
   pub behind : (t : List ℕ) → F .read (s ++ t) at ≡ F .accepts x n
 
@@ -47,8 +44,7 @@ pub record Rewritten {X R : Type 0} (F : Format X R) (s : List ℕ) (at : ℕ) (
 pub record Returned {X R : Type 0} (F : Format X R) (x : X) : Type 0 where
   pub long : length (F .bytes x) ≡ F .size x
   -- read back it is x with its unused places empty, which is written as x is: entries past a count are ignored
-  pub back : (p t : List ℕ) → F .spare x ≤ length t →
-      F .read (p ++ (F .bytes x ++ t)) (length p) ≡ F .accepts (F .readBack x) (F .size x)
+  pub back : (p t : List ℕ) → F .read (p ++ (F .bytes x ++ t)) (length p) ≡ F .accepts (F .readBack x) (F .size x)
   pub fits : F .tooLarge (F .readBack x) ≡ false
   pub settled : F .bytes (F .readBack x) ≡ F .bytes x
 
@@ -58,3 +54,10 @@ FromBytes {X} F = (s : List ℕ) (at : ℕ) (x : X) (n : ℕ) → Bytes s → F 
 
 abbrev pub FromRecord : {X R : Type 0} → Format X R → Type 0
 FromRecord {X} F = (x : X) → F .Typed x → F .tooLarge x ≡ false → Returned F x
+
+-- and by way of a buffer with room, as the contracts have it: what was written is read back from there, also where nothing
+-- stands behind it
+abbrev pub FromBuffer : {X R : Type 0} → Format X R → Type 0
+FromBuffer {X} F =
+    (x : X) → F .Typed x → F .tooLarge x ≡ false → (out : List ℕ) (to : ℕ) → to + F .size x ≤ length out →
+    F .read (after (valueOutcome (F .write x out to)) out to (F .bytes x)) to ≡ F .accepts (F .readBack x) (F .size x)

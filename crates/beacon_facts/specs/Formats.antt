@@ -1,5 +1,5 @@
 -- The beacon and each of its parts as formats.
-use Rattle.octets.specs.Words.{ℕ, _-_, _^_, _<_, List, _≡_, length, getD}
+use Rattle.octets.specs.Words.{ℕ, _^_, _<_, List, _≡_, length, getD}
 use Rattle.octets.specs.Outcome.{accepted}
 use Rattle.identifiers.specs.declared.{ShortAddress.ShortAddress, ExtendedAddress.ExtendedAddress}
 use Rattle.seven_places.specs.Seven.{emptied}
@@ -11,7 +11,7 @@ use Rattle.time_slots.specs.declared.{GuaranteedTimeSlotInformation.GuaranteedT
 use Rattle.time_slots.specs.declared.{TimeSlotsRead.TimeSlotsRead}
 use Rattle.time_slots.specs.Descriptor.{descriptorOf, emptyDescriptor, readDescriptor, descriptorBytes}
 use Rattle.time_slots.specs.Descriptor.{descriptorTooLarge, writeDescriptor}
-use Rattle.time_slots.specs.TimeSlots.{slotsLength, slotsDemand, timeSlotsOf, readTimeSlots, timeSlotsBytes}
+use Rattle.time_slots.specs.TimeSlots.{timeSlotsOf, readTimeSlots, timeSlotsBytes}
 use Rattle.time_slots.specs.TimeSlots.{timeSlotsSize, timeSlotsTooLarge, writeTimeSlots}
 use Rattle.time_slots.specs.declared.Direction.the-variants.{Receive}
 use Rattle.pending.specs.declared.{PendingAddress.PendingAddress, PendingRead.PendingRead}
@@ -33,7 +33,6 @@ superframe =
       tooLarge = superframeTooLarge;
       bytes = superframeBytes;
       size = λ x. 2;
-      spare = λ x. 0;
       cleared = superframeCleared;
       readBack = λ x. x;
       Typed = λ x. Unit;
@@ -55,7 +54,6 @@ descriptor =
       tooLarge = descriptorTooLarge;
       bytes = descriptorBytes;
       size = λ x. 3;
-      spare = λ x. 0;
       cleared = descriptorCleared;
       readBack = descriptorReadBack;
       Typed = DescriptorTyped;
@@ -80,7 +78,6 @@ timeSlots =
       tooLarge = timeSlotsTooLarge;
       bytes = timeSlotsBytes;
       size = timeSlotsSize;
-      spare = λ x. slotsDemand (x .«slot_count») - slotsLength (x .«slot_count»);
       cleared = timeSlotsCleared;
       readBack = timeSlotsReadBack;
       Typed = TimeSlotsTyped;
@@ -105,7 +102,6 @@ pending =
       tooLarge = pendingTooLarge;
       bytes = pendingBytes;
       size = pendingSize;
-      spare = λ x. 0;
       cleared = pendingCleared;
       readBack = pendingReadBack;
       Typed = PendingTyped;
@@ -125,7 +121,6 @@ beacon =
       tooLarge = beaconTooLarge;
       bytes = beaconBytes;
       size = beaconSize;
-      spare = λ x. 0;
       cleared = beaconCleared;
       readBack = beaconReadBack;
       Typed = λ x. TimeSlotsTyped (x .«guaranteed_time_slot_info») × PendingTyped (x .«pending_address»);

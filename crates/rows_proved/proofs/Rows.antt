@@ -1,7 +1,6 @@
--- Rows P1 to P13 of document 01, by computing; P13 with any byte more.
+-- Rows P1 to P13 of document 01, by computing.
 -- Assumes nothing.
-use Prim.Native.Nat.{ℕ}
-use mathlib.Core.List.{[], _∷_, _++_, map, flatMap}
+use mathlib.Core.List.{map, flatMap}
 use mathlib.Core.Path.{_≡_, refl}
 use Rattle.octets.specs.Little.{join, split, number}
 use Rattle.frame_control.specs.Types.{typeOf}
@@ -21,7 +20,7 @@ use Rattle.time_slots.specs.TimeSlots.{slotAt, timeSlotsIn, readTimeSlots, dire
 use Rattle.time_slots.specs.TimeSlots.{writeTimeSlots}
 use Rattle.pending.specs.Pending.{pendingIn, readPending, pendingBytes, pendingTooLarge}
 use Rattle.beacon.specs.Beacon.{beaconIn, beaconLengthIn, readBeacon, beaconBytes, beaconTooLarge, writeBeacon}
-use Rattle.rows_proved.specs.Rows.{Asked, slots?, Seen, seen, p13, p13Longer, rows}
+use Rattle.rows_proved.specs.Rows.{Asked, Seen, seen, rows}
 
 pub as-listed : map (λ (row : Asked × Seen). seen (row .0)) rows ≡ map (λ (row : Asked × Seen). row .1) rows
 unfolding join split number typeOf versionOf modeOf controlBits addressIn addressBytes keyModeOf keyIn keyBytes securityIn
@@ -30,9 +29,3 @@ unfolding join split number typeOf versionOf modeOf controlBits addressIn addres
     timeSlotsBytes timeSlotsTooLarge writeTimeSlots listBytes directionsOf slotAt descriptorIn descriptorBytes descriptorTooLarge
     readPending pendingIn pendingBytes pendingTooLarge seven some flatMap
 as-listed = refl
-
--- P13's byte more, of which the list has 00, is any byte
-pub p13-any-byte : (b : ℕ) → seen (slots? (p13 ++ (b ∷ []))) ≡ p13Longer
-unfolding join split number readTimeSlots timeSlotsIn timeSlotsBytes timeSlotsTooLarge writeTimeSlots listBytes directionsOf slotAt
-    descriptorIn descriptorBytes descriptorTooLarge seven some flatMap
-p13-any-byte b = refl

@@ -1,6 +1,6 @@
 -- Document 01, "Frames to try", rows P1 to P13: what reading a header, a beacon or a GTS field answers, its record, its
--- lengths, and what writing it again gives.
-use Rattle.octets.specs.Words.{ℕ, Bool, true, false, cond, List, [], _∷_, _++_, eqb, replicate}
+-- lengths, and what writing it again gives. P13 is as request 2 of document 02 changes it.
+use Rattle.octets.specs.Words.{ℕ, Bool, true, false, cond, List, [], _∷_, eqb, replicate}
 use Rattle.octets.specs.declared.{Outcome.Outcome}
 use Rattle.octets.specs.Value.{valueOutcome}
 use Rattle.key_identifier.specs.declared.{OptionalKeySource.OptionalKeySource}
@@ -159,10 +159,6 @@ p7 = 0x41 ∷ 0x88 ∷ 0x07 ∷ 0x34 ∷ 0x12 ∷ 0x01 ∷ 0x00 ∷ 0x02 ∷ 0x0
 abbrev pub p13 : List ℕ
 p13 = 0x81 ∷ 0x01 ∷ 0x02 ∷ 0x00 ∷ 0x35 ∷ []
 
--- P13 with one byte more, whatever it is
-abbrev pub p13Longer : Seen
-p13Longer = slots (record { read = oneSlot; length = 5; again = written 5 p13 })
-
 abbrev pub rows : List (Asked × Seen)
 rows =
     -- P1
@@ -236,7 +232,7 @@ rows =
         again = written 8 (0x46 ∷ 0xCF ∷ 0x81 ∷ 0x01 ∷ 0x02 ∷ 0x00 ∷ 0x35 ∷ 0x00 ∷ []);
       }),
     ) ∷
-    -- P13: a GTS field alone wants to see one byte more than it takes
-    (slots? p13, refusal 1) ∷
-    (slots? (p13 ++ (0x00 ∷ [])), p13Longer) ∷
+    -- P13: a GTS field alone, less its last byte and whole, with nothing behind it (request 2)
+    (slots? (0x81 ∷ 0x01 ∷ 0x02 ∷ 0x00 ∷ []), refusal 1) ∷
+    (slots? p13, slots (record { read = oneSlot; length = 5; again = written 5 p13 })) ∷
     []

@@ -23,23 +23,14 @@ use Rattle.time_slots.specs.Direction.{directionBit}
 use Rattle.time_slots.specs.Descriptor.{descriptorBytes, descriptorTooLarge}
 use Rattle.time_slots.proofs.Descriptor.{descriptor-length}
 use Rattle.time_slots.specs.declared.GuaranteedTimeSlotInformation.{GuaranteedTimeSlotInformation}
-use Rattle.time_slots.specs.TimeSlots.{slotsLength, slotsDemand, slotCountIn, timeSlotsIn, timeSlotsLengthIn, readTimeSlots}
+use Rattle.time_slots.specs.TimeSlots.{slotsLength, timeSlotsIn, timeSlotsLengthIn, readTimeSlots}
 use Rattle.time_slots.specs.TimeSlots.{directionsOf, listBytes, timeSlotsHeader, timeSlotsBytes, timeSlotsSize}
 use Rattle.time_slots.specs.TimeSlots.{slotCountTooLarge, timeSlotsTooLarge}
 
--- how many bytes slots take and are asked for
+-- how many bytes slots take
 pub length-some : (n : ℕ) → (n ≡ 0 → ⊥) → slotsLength n ≡ 1 + 3 * n
 length-some zero h = absurd (h refl)
 length-some (suc n) h = refl
-
-pub demand-some : (n : ℕ) → (n ≡ 0 → ⊥) → slotsDemand n ≡ 2 + 3 * n
-demand-some zero h = absurd (h refl)
-demand-some (suc n) h = refl
-
--- the reader sees the bytes that it takes
-pub demand-enough : (n : ℕ) → slotsLength n ≤ slotsDemand n
-demand-enough zero = omega arith
-demand-enough (suc n) = omega arith
 
 -- one slot more before the others, the first in the lowest bit
 pub directions-more : (l : List GuaranteedTimeSlotDescriptor) (n i : ℕ) (d : GuaranteedTimeSlotDescriptor) {first rest : ℕ} → n ≤ length l →
@@ -108,12 +99,12 @@ time-slots-length x full f =
       list-length (x .slots) (x .«slot_count») (rw full (fitting x f .0)),
     )
 
--- what is read was there, and what it wants to see behind
+-- what is read was there
 pub time-slots-read : (s : List ℕ) (at : ℕ) → readTimeSlots s at .outcome .number ≡ 0 →
     (readTimeSlots s at ≡ record { outcome = accepted (timeSlotsLengthIn s at); «guaranteed_time_slot_info» = timeSlotsIn s at })
-    × (1 + slotsDemand (slotCountIn s at) ≤ length s - at)
+    × (timeSlotsLengthIn s at ≤ length s - at)
 unfolding readTimeSlots
 time-slots-read s at e =
     cases (holds? (ends s at 1)) (λ t. absurd (omega (arith, simp t at e))) (λ t.
-    cases (holds? (ends s at (1 + slotsDemand (slotCountIn s at)))) (λ u. absurd (omega (arith, simp (t, u) at e))) (λ u.
+    cases (holds? (ends s at (timeSlotsLengthIn s at))) (λ u. absurd (omega (arith, simp (t, u) at e))) (λ u.
     (simp (t, u), ltb-false _ _ u)))

@@ -1,5 +1,6 @@
 -- GTS information, document 01, "Beacon layout" (IEEE 802.15.4-2011, 5.2.2.1.3 to 5.2.2.1.5). Header: count n bits 0-2,
--- permit 7. For n > 0 a direction byte, then n descriptors. Bit k of the direction byte belongs to descriptor k.
+-- permit 7. For n > 0 a direction byte, then n descriptors. Bit k of the direction byte belongs to descriptor k. Document
+-- 02, request 2, where document 01 has 2+3n: "For n > 0 let it demand 1+3n after its header", which is what it takes.
 use Rattle.octets.specs.Words.{ℕ, zero, suc, _+_, _*_, _^_, Bool, false, _||_, List, [], _∷_, _++_, flatMap, ltb, take}
 use Rattle.octets.specs.Words.{replicate}
 use Rattle.octets.specs.declared.{ValueWritten.ValueWritten}
@@ -18,12 +19,6 @@ use Rattle.time_slots.specs.Descriptor.{emptyDescriptor, descriptorIn, d
 abbrev pub slotsLength : ℕ → ℕ
 slotsLength zero = 0
 slotsLength (suc k) = 1 + 3 * suc k
-
--- how many the reader wants to see there: "For n > 0 the GTS reader called alone demands 2+3n bytes after its header
--- but consumes 1+3n"
-abbrev pub slotsDemand : ℕ → ℕ
-slotsDemand zero = 0
-slotsDemand (suc k) = 2 + 3 * suc k
 
 -- slot k of the list whose directions stand at a place
 unfoldable pub slotAt : List ℕ → ℕ → ℕ → GuaranteedTimeSlotDescriptor
@@ -59,7 +54,7 @@ timeSlotsRefused = record { outcome = refused 1; «guaranteed_time_slot_info» =
 
 unfoldable pub readTimeSlots : List ℕ → ℕ → TimeSlotsRead
 readTimeSlots s at =
-    first ((ends s at 1, timeSlotsRefused) ∷ (ends s at (1 + slotsDemand (slotCountIn s at)), timeSlotsRefused) ∷ [])
+    first ((ends s at 1, timeSlotsRefused) ∷ (ends s at (timeSlotsLengthIn s at), timeSlotsRefused) ∷ [])
     (record { outcome = accepted (timeSlotsLengthIn s at); «guaranteed_time_slot_info» = timeSlotsIn s at })
 
 -- the direction byte of a list of slots, the first slot's bit lowest

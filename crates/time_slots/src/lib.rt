@@ -8,7 +8,7 @@ ghost use Rattle.seven_places.specs.Seven.{some};
 ghost use Rattle.time_slots.specs.Direction.{directionBit, directionOf};
 ghost use Rattle.time_slots.specs.Descriptor.{emptyDescriptor, descriptorIn, readDescriptor};
 ghost use Rattle.time_slots.specs.Descriptor.{descriptorBytes, descriptorTooLarge, writeDescriptor};
-ghost use Rattle.time_slots.specs.TimeSlots.{slotsLength, slotsDemand, slotAt, slotsIn, emptyTimeSlots};
+ghost use Rattle.time_slots.specs.TimeSlots.{slotsLength, slotAt, slotsIn, emptyTimeSlots};
 ghost use Rattle.time_slots.specs.TimeSlots.{slotsOf, timeSlotsRefused, readTimeSlots, directionsOf, listBytes};
 ghost use Rattle.time_slots.specs.TimeSlots.{timeSlotsHeader, timeSlotsBytes, timeSlotsSize};
 ghost use Rattle.time_slots.specs.TimeSlots.{slotCountTooLarge, timeSlotsTooLarge, writeTimeSlots};
@@ -159,14 +159,6 @@ pub fn slots_length(n: u8) -> usize
     if n == 0 { 0 } else { 1 + 3 * (n as usize) }
 }
 
-// How many bytes the reader wants to see behind the header of n slots.
-fn slots_demand(n: u8) -> usize
-    ensures { λ r. ⌜ r ≡ slotsDemand n ⌝ }
-    ensures { λ r. ⌜ r ≤ 2 + 3 * n ⌝ }
-{
-    if n == 0 { 0 } else { 2 + 3 * (n as usize) }
-}
-
 // Slot k of the list whose directions stand at a place. Asks that both are there.
 fn slot_at(s: &[u8], at: usize, k: usize) -> GuaranteedTimeSlotDescriptor
     requires { ⌜ k < 7 ⌝ }
@@ -312,8 +304,7 @@ impl GuaranteedTimeSlotInformation {
         }
     }
 
-    // Reads it at a place: refusal 1 where its bytes are not all there. Read alone, it wants to see one byte more
-    // behind its slots than it takes, as the crate does: in a beacon another part follows.
+    // Reads it at a place: refusal 1 where its bytes are not all there. What stands behind them is not asked for.
     pub fn read(s: &[u8], at: usize) -> TimeSlotsRead
         ensures { λ r. ⌜ r ≡ readTimeSlots (now (s .entry)) at ⌝ }
     {
@@ -322,7 +313,7 @@ impl GuaranteedTimeSlotInformation {
         }
         let header = u8_at(s, at);
         let n = header % 8;
-        if left(s, at) < 1 + slots_demand(n) {
+        if left(s, at) < 1 + slots_length(n) {
             return TimeSlotsRead::refused();
         }
         let slots = slots_at(s, at + 1, n as usize);

@@ -1,5 +1,7 @@
-//! Equal, listed or unlisted: what document 01 says of a difference.
+//! Equal, listed or unlisted: what documents 01 and 02 say of a difference.
 
+use oracle_format::asks_with_nothing_behind;
+use oracle_format::text::{bytes_of_hex, hex};
 use std::collections::BTreeMap;
 
 #[derive(PartialEq)]
@@ -97,18 +99,38 @@ fn kept(command: &[u8], answer: &[u8]) -> bool {
     !writes(command, &parts) || parts[parts.len() - 3] == b"0" || parts[parts.len() - 1].chunks(2).all(|byte| byte == b"a5")
 }
 
+/// Whether a command line reads a GTS field alone with nothing behind it.
+pub fn nothing_behind(command: &[u8]) -> bool {
+    command[0] == b'g' && bytes_of_hex(&command[2..]).map_or(false, |bytes| asks_with_nothing_behind(&bytes))
+}
+
+/// What was answered to a command, raw but for the last.
+pub struct Answers<'a> {
+    pub command: &'a [u8],
+    pub rust: &'a [u8],
+    pub model: &'a [u8],
+    /// The Rust's answer to a GTS field alone, with a byte behind it where there is none.
+    pub rust_with_more: Option<&'a [u8]>,
+}
+
 impl Table {
     pub fn equal(&mut self, count: u64) {
         self.commands += count;
         self.equal += count;
     }
 
-    /// The Rust's raw answer against the model's.
-    pub fn pair(&mut self, command: &[u8], rust: &[u8], model: &[u8]) {
+    /// The Rust's answer against the model's.
+    pub fn pair(&mut self, answers: &Answers) {
+        let Answers { command, rust, model, rust_with_more } = *answers;
         self.commands += 1;
         let example = || Some(Example { command: command.to_vec(), left: rust.to_vec(), right: model.to_vec() });
         if !kept(command, model) || model == b"panic" || model == b"bad" {
             self.unlisted.entry(format!("model alone, kind {}", command[0] as char)).or_default().add(1, example());
+        } else if let Some(more) = rust_with_more {
+            let as_listed = rust == b"1\t0" && more == folded(command, model);
+            let (classes, name) =
+                if as_listed { (&mut self.listed, "nothing behind a GTS field") } else { (&mut self.unlisted, BETWEEN) };
+            classes.entry(format!("{name}, kind {}", command[0] as char)).or_default().add(1, example());
         } else if rust == model {
             self.equal += 1;
         } else if let Some(equal) = equal_as_asked(rust, model) {
@@ -129,10 +151,12 @@ impl Table {
     }
 
     /// The program's answer against the Rust's, and against the model's where the Rust could not be asked or the record is not free of 8.
-    pub fn program(&mut self, command: &[u8], rust: &[u8], model: &[u8], program: &[u8]) {
-        let by_rust = match equal_as_asked(rust, program) {
-            Some(equal) => equal,
-            None => written_number(command, model) == Some(b"8") || folded(command, rust) == program,
+    pub fn program(&mut self, answers: &Answers, program: &[u8]) {
+        let Answers { command, rust, model, rust_with_more } = *answers;
+        let by_rust = match (rust_with_more, equal_as_asked(rust, program)) {
+            (Some(more), _) => more == program,
+            (None, Some(equal)) => equal,
+            (None, None) => written_number(command, model) == Some(b"8") || folded(command, rust) == program,
         };
         if !by_rust || folded(command, model) != program {
             let example = Example { command: command.to_vec(), left: rust.to_vec(), right: program.to_vec() };
@@ -219,10 +243,10 @@ impl Table {
 /// Commands a little smaller than this one: a byte less at the end, a byte made 0 or halved.
 pub fn smaller(command: &[u8]) -> Vec<Vec<u8>> {
     let (start, digits) = command.split_at(2);
-    let bytes = oracle_format::text::bytes_of_hex(digits).unwrap_or_default();
+    let bytes = bytes_of_hex(digits).unwrap_or_default();
     let with = |bytes: &[u8]| {
         let mut line = start.to_vec();
-        oracle_format::text::hex(bytes, &mut line);
+        hex(bytes, &mut line);
         line
     };
     let mut found = Vec::new();

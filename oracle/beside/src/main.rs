@@ -4,10 +4,11 @@ mod compare;
 mod sides;
 mod suites;
 
-use compare::{Table, Verdict};
+use compare::{nothing_behind, Answers, Table, Verdict};
 use oracle_format::generator::{Run, FAMILIES};
 use oracle_format::text::{bytes_of_hex, fnv, hex, FNV_START};
 use sides::Program;
+use std::collections::BTreeMap;
 use std::io::Write;
 use suites::{line, thousand, SUITES};
 
@@ -133,10 +134,14 @@ impl Sides {
         let rust = self.rust.ask(lines);
         let model = self.model.ask(lines);
         let program = self.program.as_mut().map(|program| program.ask(lines));
+        let alone: Vec<_> = lines.iter().filter(|line| nothing_behind(line)).cloned().collect();
+        let with_more: BTreeMap<_, _> = alone.iter().zip(self.rust_folded.ask(&alone)).collect();
         for (index, command) in lines.iter().enumerate() {
-            table.pair(command, &rust[index], &model[index]);
+            let rust_with_more = with_more.get(command).map(|answer| &answer[..]);
+            let answers = Answers { command, rust: &rust[index], model: &model[index], rust_with_more };
+            table.pair(&answers);
             if let Some(program) = &program {
-                table.program(command, &rust[index], &model[index], &program[index]);
+                table.program(&answers, &program[index]);
             }
         }
     }
@@ -200,11 +205,15 @@ fn run(rust: &str, model: &str, thousands: u64, program: Option<&str>) {
         for batch in numbers.chunks(64) {
             let thousands: Vec<_> = batch.iter().map(|number| thousand(family, *number)).collect();
             for (agree, number) in sides.digests_agree(&thousands).into_iter().zip(batch) {
+                let single = single(&thousand(family, *number));
                 if agree {
-                    table.equal(1000);
+                    // A GTS field with nothing behind it has a digest only with a byte there: it is looked at by itself.
+                    let alone: Vec<_> = single.into_iter().filter(|line| nothing_behind(line)).collect();
+                    table.equal(1000 - alone.len() as u64);
+                    sides.compare(&alone, &mut table);
                 } else {
                     let before = table.unlisted();
-                    sides.compare(&single(&thousand(family, *number)), &mut table);
+                    sides.compare(&single, &mut table);
                     if table.unlisted() == before {
                         table.digest_alone(&line(b'd', &thousand(family, *number)));
                     }

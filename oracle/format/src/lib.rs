@@ -28,6 +28,11 @@ pub trait Part {
     /// The record at a place of the slice and the count of its bytes, or the refusal.
     fn read(bytes: &[u8], place: usize) -> Result<(Self::Record, usize), Number>;
 
+    /// The same in the folded form.
+    fn read_folded(bytes: &[u8], place: usize) -> Result<(Self::Record, usize), Number> {
+        Self::read(bytes, place)
+    }
+
     /// The record in the fixed layout.
     fn spell(record: &Self::Record, out: &mut Vec<u8>);
 
@@ -115,7 +120,20 @@ fn ask(bytes: &[u8]) -> Option<(Ask, &[u8])> {
     Some((ask, &bytes[PREFIX..]))
 }
 
-/// How a dump is printed. Folded: 5 as 4, and no buffer after a refusal. Raw: both as they are.
+/// Whether some slots, n of them, stand at a place with 1+3n bytes behind their header and not 2+3n: such a GTS field alone is read by document
+/// 02's request 2, and refused by the Rust.
+pub fn nothing_behind(input: &[u8], place: usize) -> bool {
+    let left = input.get(place..).unwrap_or(&[]);
+    left.first().map_or(false, |header| header % 8 != 0 && left.len() == 2 + 3 * (header % 8) as usize)
+}
+
+/// Whether the bytes of a command that reads a GTS field have such a one at their place.
+pub fn asks_with_nothing_behind(bytes: &[u8]) -> bool {
+    ask(bytes).map_or(false, |(ask, input)| nothing_behind(input, ask.place))
+}
+
+/// How a dump is printed. Folded: 5 as 4, no buffer after a refusal, and what the Rust refuses for nothing behind it with a byte there. Raw:
+/// all as it is.
 #[derive(Clone, Copy, PartialEq)]
 pub enum Form {
     Folded,
@@ -163,7 +181,8 @@ fn put_written<P: Part>(record: P::Record, ask: Ask, form: Form, out: &mut Vec<u
 
 fn put_read<P: Part>(bytes: &[u8], form: Form, out: &mut Vec<u8>) -> bool {
     let Some((ask, input)) = ask(bytes) else { return false };
-    match P::read(input, if P::PLACED { ask.place } else { 0 }) {
+    let read = if form == Form::Raw { P::read } else { P::read_folded };
+    match read(input, if P::PLACED { ask.place } else { 0 }) {
         Err(number) => put_refused(number, form, out),
         Ok((record, length)) => {
             out.extend_from_slice(b"0\t");

@@ -201,7 +201,7 @@ impl Encoded for Slots {
 impl Part for Slots {
     type Record = Slots;
 
-    /// For n > 0, 2+3n bytes are demanded after the header and 1+3n consumed.
+    /// For n > 0, 1+3n bytes are demanded after the header and consumed (document 02, request 2).
     fn read(bytes: &[u8], place: usize) -> Result<(Slots, usize), Number> {
         let header = take(bytes, place, 1)?[0];
         let mut record = Slots { permit: bit(header, 7), count: header % 8, ..Slots::EMPTY };
@@ -209,7 +209,7 @@ impl Part for Slots {
         if n == 0 {
             return Ok((record, 1));
         }
-        let part = &take(bytes, place, 1 + 2 + 3 * n)?[..1 + 1 + 3 * n];
+        let part = take(bytes, place, 1 + 1 + 3 * n)?;
         for k in 0..n {
             record.places[k] = Descriptor::read(part, 2 + 3 * k)?.0;
             record.places[k].transmit = bit(part[1], k as u32);
@@ -329,7 +329,7 @@ impl Encoded for Beacon {
 impl Part for Beacon {
     type Record = Beacon;
 
-    /// The pending header supplies the byte that the slots ask for beyond their own.
+    /// Its three parts, one behind the other.
     fn read(bytes: &[u8], place: usize) -> Result<(Beacon, usize), Number> {
         let content = from(bytes, place);
         let (superframe, taken) = Superframe::read(content, 0)?;

@@ -15,7 +15,7 @@ use ieee802154::mac::{
     Address, AddressMode, ExtendedAddress, FooterMode, Frame, FrameContent, FrameType, FrameVersion, Header, PanId, ShortAddress,
 };
 use oracle_format::layout::{header, DESCRIPTOR, EMPTY_DESCRIPTOR, RECEIVE, SLOTS, SUPERFRAME, TRANSMIT};
-use oracle_format::{Number, Part, Side, UNKNOWN};
+use oracle_format::{nothing_behind, Number, Part, Side, UNKNOWN};
 
 struct Rust;
 
@@ -383,6 +383,15 @@ impl Part for SlotsPart {
 
     fn read(bytes: &[u8], place: usize) -> Result<(GuaranteedTimeSlotInformation, usize), Number> {
         read_at(bytes, place)
+    }
+
+    /// Where nothing stands behind the slots, with a byte there.
+    fn read_folded(bytes: &[u8], place: usize) -> Result<(GuaranteedTimeSlotInformation, usize), Number> {
+        if nothing_behind(bytes, place) {
+            read_at(&[bytes, &[0]].concat(), place)
+        } else {
+            read_at(bytes, place)
+        }
     }
 
     fn spell(record: &GuaranteedTimeSlotInformation, out: &mut Vec<u8>) {

@@ -12,8 +12,8 @@ use Rattle.superframe.specs.declared.SuperframeRead.{SuperframeRead}
 use Rattle.superframe.specs.Superframe.{superframeIn, readSuperframe}
 use Rattle.superframe.proofs.Superframe.{superframe-read}
 use Rattle.time_slots.specs.declared.TimeSlotsRead.{TimeSlotsRead}
-use Rattle.time_slots.specs.TimeSlots.{slotCountIn, timeSlotsIn, timeSlotsLengthIn, readTimeSlots}
-use Rattle.time_slots.proofs.TimeSlots.{time-slots-read, demand-enough}
+use Rattle.time_slots.specs.TimeSlots.{timeSlotsIn, timeSlotsLengthIn, readTimeSlots}
+use Rattle.time_slots.proofs.TimeSlots.{time-slots-read}
 use Rattle.pending.specs.declared.PendingRead.{PendingRead}
 use Rattle.pending.specs.Pending.{pendingIn, pendingLengthIn, readPending}
 use Rattle.pending.proofs.Pending.{pending-read}
@@ -37,10 +37,9 @@ slots : (c : tie.Else2) → let a = c .before .before .before .before .before .b
     (c .before .before .read2 .result ≡ part) × (readTimeSlots (a .s .now) place ≡ part)
     × (timeSlotsLengthIn (a .s .now) place ≤ length (a .s .now) - place)
 slots c =
-    let a = c .before .before .before .before .before .before .before .args in
     let call = c .before .before .read2 in
     let there = time-slots-read _ _ (ap (λ (r : TimeSlotsRead). r .outcome .number) (sym (call .ensures)) ∙ c .if2 .left) in
-    (call .ensures ∙ there .0, there .0, omega (arith, there .1, demand-enough (slotCountIn (a .s .now) (a .at + 2))))
+    (call .ensures ∙ there .0, there .0, there .1)
 
 pending : (c : tie.Else3) → let two = c .before .before .before .before in
     let a = two .before .before .before .before .before .before .before .args in

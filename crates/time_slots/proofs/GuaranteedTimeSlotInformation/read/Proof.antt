@@ -1,12 +1,10 @@
 -- `time_slots::GuaranteedTimeSlotInformation::read` meets its contract: its tests are the definition's, in turn.
 -- Assumes nothing.
-use Prim.Native.Nat.{_%_}
 use native.Mathlib.Nat.{div-one}
 use native.Mathlib.Omega.{arith}
 use borrow.Author.Needs.{needs}
 use Rattle.octets.proofs.Part.{fewer, enough}
 use Rattle.time_slots.specs.TimeSlots.{timeSlotsIn, readTimeSlots}
-use Rattle.time_slots.proofs.TimeSlots.{demand-enough}
 use Rattle.time_slots.proofs.GuaranteedTimeSlotInformation.read.Statement.{statement}
 use Rattle.time_slots.proofs.GuaranteedTimeSlotInformation.read.Tie as tie
 
@@ -23,22 +21,14 @@ no-slots c =
     simp (
       div-one,
       enough (one .before .left .ensures) (one .if1 .left),
-      fewer (two .before .before .left2 .ensures) (rw (two .before .slots-demand .ensures .0, header .u8-at .ensures) at (two .if2 .taken)),
+      fewer (two .before .before .left2 .ensures) (rw (two .before .slots-length .ensures .0, header .u8-at .ensures) at (two .if2 .taken)),
       c .refused2 .ensures,
     )
 
 there : tie.Need-slots-at-requires
 there c κs =
-    let demand = c .before in
-    let header = demand .before .before in (
-      omega arith,
-      omega (
-        arith,
-        demand .slots-demand .ensures .0,
-        demand .before .left2 .ensures,
-        demand-enough (header .u8-at .result % 8),
-      ),
-    )
+    let two = c .before in
+    (omega arith, omega (arith, two .slots-length .ensures .0, two .before .left2 .ensures))
 
 all : tie.Need-returns-3
 unfolding readTimeSlots timeSlotsIn
@@ -50,9 +40,9 @@ all c =
     simp (
       div-one,
       enough (one .before .left .ensures) (one .if1 .left),
-      enough (two .before .before .left2 .ensures) (rw (two .before .slots-demand .ensures .0, header .u8-at .ensures) at (two .if2 .left)),
+      enough (two .before .before .left2 .ensures) (rw (two .before .slots-length .ensures .0, header .u8-at .ensures) at (two .if2 .left)),
       c .accepted .ensures,
-      c .before .slots-length .ensures .0,
+      c .before .slots-length2 .ensures .0,
       slots .slots-at .ensures,
       header .u8-at .ensures,
     )
