@@ -8,3 +8,4 @@ pub mod TimeSlots
 pub mod Pending
 pub mod Beacon
 pub mod Trip
+pub mod Demand

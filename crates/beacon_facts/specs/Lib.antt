@@ -2,3 +2,4 @@ pub mod Cleared
 pub mod Format
 pub mod Formats
 pub mod RoundTrip
+pub mod Demand
