@@ -18,7 +18,7 @@ use Rattle.hex.specs.Hex.{isDigit, odd, foreign, unhex, decoded, digit}
 use Rattle.hex.proofs.Hex.{foreign-no, unhex-length, unhex-whole, whole-good}
 use Rattle.labelled.specs.Answer.{tabs, label, digits, bad, labelled}
 
-tab-foreign : isDigit 9 ≡ false
+pub tab-foreign : isDigit 9 ≡ false
 unfolding digit
 tab-foreign = refl
 
@@ -33,12 +33,12 @@ foreign-free a (b ∷ s) h f =
     let g = foreign-no b s f in
     (ne-eqb b a (λ e. true≢false (sym (g .0) ∙ ap isDigit e ∙ h)), foreign-free a s h (g .1))
 
-tabs-free : (s : List ℕ) → Free 9 s → tabs s ≡ 0
+pub tabs-free : (s : List ℕ) → Free 9 s → tabs s ≡ 0
 unfolding tabs
 tabs-free [] f = refl
 tabs-free (b ∷ s) f = simp (f .0) (tabs-free s (f .1))
 
-tabs-at : (s t : List ℕ) → Free 9 s → tabs (s ++ (9 ∷ t)) ≡ suc (tabs t)
+pub tabs-at : (s t : List ℕ) → Free 9 s → tabs (s ++ (9 ∷ t)) ≡ suc (tabs t)
 unfolding tabs
 tabs-at [] t f = refl
 tabs-at (b ∷ s) t f = simp (f .0) (tabs-at s t (f .1))

@@ -1,10 +1,11 @@
--- What a line that was cut from a chunk leads to: as much of it is kept as tells its answer where it has ended.
+-- What a line that was cut from a chunk leads to: as much of it is kept as tells its answer where it has ended. The
+-- same for a program with a state.
 -- Assumes nothing.
 use Prim.Native.Nat.{ℕ, _+_, _-_, _≤_, _<_}
 use native.Mathlib.Omega.{arith}
 use mathlib.Core.Bool.{true, false}
 use mathlib.Core.List.{List, [], _++_}
-use mathlib.Core.Path.{_≡_, sym, ap, _∙_}
+use mathlib.Core.Path.{_≡_, refl, sym, ap, _∙_}
 use borrow.Author.Tests.{ltb-true, ltb-false}
 use lib.ListN.{length, take, drop, length-drop}
 use Rattle.octets.specs.Buffer.{laid, fitting}
@@ -13,8 +14,11 @@ use Rattle.octets.proofs.Stored.{same}
 use Rattle.line_cutter.specs.declared.Taken.{Taken}
 use Rattle.line_cutter.specs.Answers.{Onward, fedTo}
 use Rattle.line_cutter.specs.Line.{keptMost, lineFeed, lineOf, lineEnds, taken}
-use Rattle.line_cutter.proofs.Answers.{fed-ended, fed-open}
+use Rattle.line_cutter.specs.Telling.{workedTo}
+use Rattle.line_cutter.proofs.Answers.{stays, tells, left, fed-worked}
 use Rattle.line_cutter.proofs.Line.{before-length, taken-kept, taken-end, taken-small, taken-feed, taken-all, taken-behind, taken-rest}
+use Rattle.line_cutter.proofs.Lines.{Sees}
+use Rattle.line_cutter.proofs.Telling.{worked-ended, worked-open}
 
 -- an answer looks at no more of a line than is kept
 abbrev pub Seen : (List ℕ → List ℕ) → Type 0
@@ -60,30 +64,33 @@ module _ (chunk : List ℕ) (at : ℕ) (line : List ℕ) (n : ℕ) (r : Taken) (
       let z = taken-all chunk at line n r e (sym (taken-end chunk at line n r e) ∙ t) in
       omega (arith, taken-small chunk at line n r e (omega arith) .1, z)
 
-  module _ (answer : List ℕ → List ℕ) where
-    cut-ended : Seen answer → (out o : List ℕ) (u next : ℕ) → r .ended ≡ true → Stored out u (answer (take (r .n) kept)) o next →
-        (fedTo answer [] (drop (r .at) chunk) o next ≡ fedTo answer (take n line) (drop at chunk) out u) × Onward (length chunk) at 0 (r .at)
-    cut-ended sees out o u next t s =
+  -- the same for a program with a state: a line that has ended and is a step, and one that goes on
+  module _ {S : Type 0} (step : S → List ℕ → S) (says : S → List ℕ → List ℕ) where
+    pub cut-told : r .ended ≡ true → Sees keptMost step → Sees keptMost says → (s : S) (out o : List ℕ) (u next : ℕ) →
+        Stored out u (says s (take (r .n) kept)) o next →
+        (workedTo step says (step s (take (r .n) kept)) [] (drop (r .at) chunk) o next ≡ workedTo step says s (take n line) (drop at chunk) out u)
+        × Onward (length chunk) at 0 (r .at)
+    cut-told t sees hears s out o u next p =
         let l = take n line in
         let d = drop at chunk in
         let ends : lineEnds d ≡ true = sym (taken-end chunk at line n r e) ∙ t in
         let z = taken-feed chunk at line n r e ends in (
-          ap (λ (w : List ℕ). fedTo answer [] w o next) (taken-behind chunk at line n r e ends)
-              ∙ fed-ended answer l d out o u next ends (same (ap answer front ∙ sees (l ++ lineOf d)) s),
+          rw (front, sees s (l ++ lineOf d), taken-behind chunk at line n r e ends)
+              (worked-ended step says l d out o s u next ends (same (ap (says s) front ∙ hears s (l ++ lineOf d)) p)),
           record { small = omega arith; later = omega (arith, z); within = cut-used t .1 },
         )
 
-    cut-open : (out : List ℕ) (u : ℕ) → r .ended ≡ false →
-        (fedTo answer (take (r .n) kept) (drop (r .at) chunk) out u ≡ fedTo answer (take n line) (drop at chunk) out u)
+    pub cut-goes : r .ended ≡ false → (s : S) (out : List ℕ) (u : ℕ) →
+        (workedTo step says s (take (r .n) kept) (drop (r .at) chunk) out u ≡ workedTo step says s (take n line) (drop at chunk) out u)
         × Onward (length chunk) at (r .n) (r .at)
-    cut-open out u t =
+    cut-goes t s out u =
         let l = take n line in
         let d = drop at chunk in
         let goes : lineEnds d ≡ false = sym (taken-end chunk at line n r e) ∙ t in
         let x : length d ≤ length (lineOf d) = ltb-false _ _ goes in
         let y = length-drop at chunk in
         let z = taken-all chunk at line n r e goes in (
-          rw (front, taken-rest chunk at line n r e (omega arith) goes) (fed-open answer l d out u goes),
+          rw (front, taken-rest chunk at line n r e (omega arith) goes) (worked-open step says l d out s u goes),
           record { small = cut-small; later = omega (arith, x, y, z); within = omega (arith, before-length lineFeed lineFeed d, y, z) },
         )
 
@@ -92,6 +99,10 @@ module _ (chunk : List ℕ) (at : ℕ) (line : List ℕ) (n : ℕ) (r : Taken) (
     small = cut-small;
     used = cut-used;
     held = cut-held;
-    answered = λ t answer sees out o u next s. cut-ended answer sees out o u next t s;
-    goes = λ t answer out u. cut-open answer out u t;
+    answered = λ t answer sees out o u next s.
+        let z = cut-told stays (tells answer) t (λ _ l. refl) (λ _ l. sees l) tt out o u next s in
+        (simp (fed-worked answer) (ap left (z .0)), z .1);
+    goes = λ t answer out u.
+        let z = cut-goes stays (tells answer) t tt out u in
+        (simp (fed-worked answer) (ap left (z .0)), z .1);
   }

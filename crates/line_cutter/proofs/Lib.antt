@@ -1,4 +1,5 @@
 pub mod Line
 pub mod Lines
+pub mod Telling
 pub mod Answers
 pub mod Cutting

@@ -4,18 +4,18 @@ use Prim.Native.Nat.{ℕ, suc, _+_, _-_, _≤_, _<_}
 use native.Mathlib.Nat.{add-zero}
 use native.Mathlib.Numerals.{add-one}
 use native.Mathlib.Omega.{arith}
-use mathlib.Core.Bool.{true, false, _||_, or-true}
+use mathlib.Core.Bool.{true, false, _||_, or-true, false≢true}
 use mathlib.Core.List.{List, [], _∷_, _++_, append-assoc}
 use mathlib.Core.Path.{_≡_, refl, sym, ap, _∙_}
 use borrow.Author.Tests.{ltb-true, ltb-false, lt-ltb, le-ltb, eqb-true, eq-eqb, ne-eqb}
-use lib.Dec.{eqb}
+use lib.Dec.{ltb, eqb}
 use lib.ListN.{length, getD, take, drop, length-append, length-take, length-drop, drop-of-length-le}
-use lib.Seq.{drop-cons, take-all, take-nil, take-at, take-append-add, length-take-le, drop-drop, split-at}
+use lib.Seq.{getD-drop, drop-cons, take-all, take-nil, take-at, take-append-add, length-take-le, drop-drop, split-at}
 use Rattle.octets.specs.Buffer.{laid, fitting}
 use Rattle.octets.proofs.Buffer.{laid-none, laid-parts}
 use Rattle.octets.proofs.Cases.{cases, holds?, neither}
 use Rattle.line_cutter.specs.declared.Taken.{Taken}
-use Rattle.line_cutter.specs.Line.{before, lineOf, lineEnds, behind, taken}
+use Rattle.line_cutter.specs.Line.{before, isAt, lineOf, lineEnds, behind, taken}
 
 -- one byte at a time
 pub before-first : (a b : ℕ) (s : List ℕ) (i : ℕ) → i < length s → getD s i 0 ≡ a → before a b (drop i s) ≡ []
@@ -171,3 +171,17 @@ module _ (chunk : List ℕ) (at : ℕ) (line : List ℕ) (n : ℕ) (r : Taken) (
   taken-rest k h =
       let f : length chunk ≤ r .at = omega (arith, taken-all h, ap length (line-open (drop at chunk) h), length-drop at chunk) in
       drop-of-length-le chunk f
+
+-- a byte is there, and is the one
+pub there : (s : List ℕ) (i b : ℕ) → isAt s i b ≡ true → (i < length s) × (getD s i 0 ≡ b)
+there s i b h =
+    cases (holds? (ltb i (length s)))
+    (λ e. (ltb-true i (length s) e, eqb-true (getD s i 0) b (simp e at h)))
+    (λ e. absurd (false≢true (simp e at h)))
+
+-- a list parted at a place, of which a part behind another is a part of the whole
+pub split-there : (s : List ℕ) (at i p b : ℕ) → p ≡ at + i → p < length s → getD s p 0 ≡ b → drop at s ≡ take i (drop at s) ++ (b ∷ drop (p + 1) s)
+split-there s at i p b e h g =
+    let k : i < length (drop at s) = omega (arith, length-drop at s) in
+    let f : at + suc i ≡ p + 1 = omega arith in
+    split-at (drop at s) i 0 k ∙ rw (getD-drop at s i 0, sym e, g, drop-drop (suc i) at s, f)

@@ -64,9 +64,9 @@ begun-kept k [] l m e = e
 begun-kept k (b ∷ s) l m e =
     cases (holds? (eqb b 10)) (λ f. simp f) (λ f. simp f (begun-kept k s (l ++ (b ∷ [])) (m ++ (b ∷ [])) (take-more k l m (b ∷ []) e)))
 
--- a step looks at k bytes of a line
-abbrev pub Sees : {S : Type 0} → ℕ → (S → List ℕ → S) → Type 0
-Sees {S} k step = (s : S) (l : List ℕ) → step s (take k l) ≡ step s l
+-- a step, or what is said of a line, looks at k bytes of it
+abbrev pub Sees : {S T : Type 0} → ℕ → (S → List ℕ → T) → Type 0
+Sees {S} k f = (s : S) (l : List ℕ) → f s (take k l) ≡ f s l
 
 module _ {S : Type 0} (step : S → List ℕ → S) where
   -- work on some lines and then on others is work on all

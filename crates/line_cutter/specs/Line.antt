@@ -1,5 +1,5 @@
 -- One line of an input at a time (document 01, "Line program"): a line feed ends a line and is no part of it.
-use Rattle.octets.specs.Words.{ℕ, _+_, Bool, cond, _||_, List, [], _∷_, ltb, eqb, length, drop}
+use Rattle.octets.specs.Words.{ℕ, _+_, Bool, cond, _||_, _&&_, List, [], _∷_, ltb, eqb, length, getD, drop}
 use Rattle.octets.specs.{Buffer.fitting}
 use Rattle.line_cutter.specs.{declared.Taken.Taken}
 
@@ -21,6 +21,10 @@ keptMost = lineMost + 1
 unfoldable pub before : ℕ → ℕ → List ℕ → List ℕ
 before a b [] = []
 before a b (c ∷ s) = cond (eqb c a || eqb c b) [] (c ∷ before a b s)
+
+-- b stands at a place of s
+abbrev pub isAt : List ℕ → ℕ → ℕ → Bool
+isAt s i b = ltb i (length s) && eqb (getD s i 0) b
 
 -- the bytes of s before its first line feed
 abbrev pub lineOf : List ℕ → List ℕ

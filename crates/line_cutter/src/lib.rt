@@ -3,7 +3,7 @@
 // one.
 ghost use Rattle.octets.specs.Words.{_+_, _≡_, length, drop};
 ghost use Rattle.octets.specs.Buffer.{laid, fitting};
-ghost use Rattle.line_cutter.specs.Line.{before, lineOf, taken};
+ghost use Rattle.line_cutter.specs.Line.{before, isAt, lineOf, taken};
 use octets::copy;
 
 // The longest line that is not refused as too long, without its line feed.
@@ -36,6 +36,13 @@ pub fn find(s: &[u8], at: usize, a: u8, b: u8) -> usize
         i += 1;
     }
     i
+}
+
+// Whether a byte stands at a place of s.
+pub fn is_at(s: &[u8], i: usize, b: u8) -> bool
+    ensures { λ r. ⌜ r ≡ isAt (now (s .entry)) i b ⌝ }
+{
+    if i < s.len() { s[i] == b } else { false }
 }
 
 // Adds the bytes of a chunk, from a place on and up to a line feed, to the n bytes of the line at hand, as many as have

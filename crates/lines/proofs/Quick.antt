@@ -1,41 +1,23 @@
 -- A line that lies in its chunk as a whole and is not bad: its label up to a tab, its digits in pairs, and a line feed.
 -- Assumes nothing.
-use Prim.Native.Nat.{ℕ, suc, _+_, _-_, _*_, _≤_, _<_}
+use Prim.Native.Nat.{ℕ, _+_, _-_, _*_, _≤_}
 use native.Mathlib.Omega.{arith}
-use mathlib.Core.Bool.{true, false, false≢true}
+use mathlib.Core.Bool.{true}
 use mathlib.Core.List.{List, [], _∷_, _++_, append-assoc}
 use mathlib.Core.Path.{_≡_, refl, sym, ap, _∙_}
-use borrow.Author.Tests.{ltb-true, eqb-true}
-use lib.Dec.{ltb}
-use lib.ListN.{length, getD, take, drop, length-append, length-drop}
-use lib.Seq.{split-at, getD-drop, drop-drop, length-take-le}
-use Rattle.octets.proofs.Cases.{cases, holds?}
+use lib.ListN.{length, take, drop, length-append, length-drop}
+use lib.Seq.{length-take-le}
 use Rattle.octets.proofs.Lists.{take-again}
 use Rattle.line_cutter.specs.Answers.{fedTo}
-use Rattle.line_cutter.specs.Line.{lineMost, before}
-use Rattle.line_cutter.proofs.Line.{Free, free-append, free-first, free-second, before-part}
+use Rattle.line_cutter.specs.Line.{lineMost, before, isAt}
+use Rattle.line_cutter.proofs.Line.{Free, free-append, free-first, free-second, before-part, there, split-there}
 use Rattle.hex.specs.Hex.{unhex, decoded}
 use Rattle.hex.proofs.Hex.{unhex-take, whole-good}
 use Rattle.lines.specs.Answer.{said, answer}
 use Rattle.octets.specs.Stored.{Stored}
-use Rattle.lines.specs.Place.{isAt}
 use Rattle.labelled.proofs.Answer.{feed-foreign, foreign-free, answer-good}
 use Rattle.line_cutter.proofs.Answers.{fed-line}
 use Rattle.octets.proofs.Stored.{same}
-
--- a byte is there, and is the one
-pub there : (s : List ℕ) (i b : ℕ) → isAt s i b ≡ true → (i < length s) × (getD s i 0 ≡ b)
-there s i b h =
-    cases (holds? (ltb i (length s)))
-    (λ e. (ltb-true i (length s) e, eqb-true (getD s i 0) b (simp e at h)))
-    (λ e. absurd (false≢true (simp e at h)))
-
--- a list parted at a place, of which a part behind another is a part of the whole
-parted : (s : List ℕ) (at i p b : ℕ) → p ≡ at + i → p < length s → getD s p 0 ≡ b → drop at s ≡ take i (drop at s) ++ (b ∷ drop (p + 1) s)
-parted s at i p b e h g =
-    let k : i < length (drop at s) = omega (arith, length-drop at s) in
-    let f : at + suc i ≡ p + 1 = omega arith in
-    split-at (drop at s) i 0 k ∙ rw (getD-drop at s i 0, sym e, g, drop-drop (suc i) at s, f)
 
 module _ (chunk : List ℕ) (at tab n : ℕ) (e : tab ≡ at + length (before 9 10 (drop at chunk))) (t : isAt chunk tab 9 ≡ true)
     (f : n ≡ length (decoded chunk (tab + 1) 512)) (g : isAt chunk (tab + 1 + 2 * n) 10 ≡ true) (h : tab + 1 + 2 * n - at ≤ lineMost) where
@@ -68,8 +50,8 @@ module _ (chunk : List ℕ) (at tab n : ℕ) (e : tab ≡ at + length (before 9 
   laid-out =
       let a = there chunk tab 9 t in
       let b = there chunk (tab + 1 + 2 * n) 10 g in
-      parted chunk at (tab - at) tab 9 (omega arith) (a .0) (a .1)
-      ∙ ap (λ (l : List ℕ). label ++ (9 ∷ l)) (parted chunk (tab + 1) (2 * n) (tab + 1 + 2 * n) 10 refl (b .0) (b .1))
+      split-there chunk at (tab - at) tab 9 (omega arith) (a .0) (a .1)
+      ∙ ap (λ (l : List ℕ). label ++ (9 ∷ l)) (split-there chunk (tab + 1) (2 * n) (tab + 1 + 2 * n) 10 refl (b .0) (b .1))
       ∙ sym (append-assoc label (9 ∷ digits) (10 ∷ drop (tab + 1 + 2 * n + 1) chunk))
 
   label-length : length label ≡ tab - at

@@ -9,7 +9,6 @@ ghost use Rattle.line_cutter.specs.Answers.{Onward, fedTo};
 ghost use Rattle.line_cutter.specs.Line.{keptMost};
 ghost use Rattle.lines.specs.Answer.{answer};
 ghost use Rattle.lines.specs.Chunks.{takes, feeding, ending};
-ghost use Rattle.lines.specs.Place.{isAt};
 use hex::decode_by;
 use hex::values;
 use labelled::FRAME_MOST;
@@ -17,6 +16,7 @@ use line_cutter::KEPT_MOST;
 use line_cutter::LINE_MOST;
 use line_cutter::cut;
 use line_cutter::find;
+use line_cutter::is_at;
 use octets::left;
 use one_line::put_answer;
 use one_line::put_good;
@@ -72,12 +72,6 @@ fn put_line(
         used,
         at: taken.at,
     }
-}
-
-fn is_at(s: &[u8], i: usize, b: u8) -> bool
-    ensures { λ r. ⌜ r ≡ isAt (now (s .entry)) i b ⌝ }
-{
-    if i < s.len() { s[i] == b } else { false }
 }
 
 // The quick way: where a line begins at a place of a chunk, ends in it and is not bad, stores its answer from where it

@@ -13,14 +13,14 @@ use lib.ListN.{length, set, take, drop, length-append, length-map, length-set}
 use lib.Seq.{length-take-le, take-suc-set, take-at, take-append-add}
 use Rattle.octets.specs.Buffer.{laid}
 use Rattle.octets.proofs.Buffer.{laid-none, laid-cons, laid-parts}
-use Rattle.octets.proofs.Cases.{cases, holds?}
+use Rattle.octets.proofs.Cases.{cases, holds?, both}
 use Rattle.header.specs.Read.{readHeader}
 use Rattle.pieces.specs.declared.HeaderReader.{HeaderReader}
 use Rattle.pieces.specs.Answer.{told}
 use Rattle.pieces.specs.Needed.{needed}
 use Rattle.pieces.specs.Reader.{waits, awaitedWith, says, grown, taken}
 use Rattle.pieces.specs.Steps.{grownWith, gathered, spoken}
-use Rattle.pieces.proofs.Prefix.{both, needed-bounds, needed-settled, needed-open, needed-grows}
+use Rattle.pieces.proofs.Prefix.{needed-bounds, needed-settled, needed-open, needed-grows}
 
 -- an array that a record owns has all its places
 pub mapped : {A B : Type 0} (f : A → B) (l : List A) (n : ℕ) → length (map f l) ≡ n → length l ≡ n

@@ -4,7 +4,7 @@
 -- Assumes nothing.
 use Prim.Native.Nat.{ℕ, _+_, _≤_, _<_}
 use native.Mathlib.Omega.{arith}
-use mathlib.Core.Bool.{Bool, true, false, true≢false, cond, not, _&&_}
+use mathlib.Core.Bool.{Bool, true, false, true≢false, cond, not}
 use mathlib.Core.List.{List, [], _∷_, _++_}
 use mathlib.Core.Path.{_≡_, refl, sym, ap, _∙_}
 use borrow.Author.Tests.{ltb-true, ltb-false, leb-true, leb-false, eqb-true, le-ltb, lt-ltb, le-leb, lt-leb}
@@ -12,17 +12,12 @@ use lib.Dec.{ltb, leb, eqb}
 use lib.ListN.{length, length-append}
 use Rattle.octets.specs.declared.Outcome.{Outcome}
 use Rattle.octets.specs.{Bits.bits, Bits.bit, Little.number, Order.first, Outcome.accepted, Outcome.refused}
-use Rattle.octets.proofs.Cases.{cases, holds?}
+use Rattle.octets.proofs.Cases.{cases, holds?, both}
 use Rattle.octets.proofs.Little.{number-more}
 use Rattle.header_bytes.specs.Layout.{panSize, addressSize, destinationEnd, sourceEnd, headerEnd}
 use Rattle.header_bytes.specs.Reading.{unshared, answered, measured}
 use Rattle.header_bytes.proofs.Sizes.{source-end, header-end, control-inside}
 use Rattle.pieces.specs.Needed.{controlUnseen, needed}
-
--- each of two tests that hold together
-pub both : (a b : Bool) → (a && b) ≡ true → (a ≡ true) × (b ≡ true)
-both true b e = (refl, e)
-both false b e = absurd (true≢false (sym e))
 
 -- The refusals of a frame control, by its five tests: version, type, the two address modes and compression; 0 where none holds.
 abbrev faults : Bool → Bool → Bool → Bool → Bool → ℕ

@@ -12,7 +12,7 @@ use lib.Dec.{ltb, leb, eqb}
 use lib.ListN.{length, take, drop, replicate, length-append, length-take, take-append-drop}
 use lib.Seq.{length-take-le}
 use Rattle.octets.specs.{Bits.bit, Little.number, Outcome.accepted, Outcome.refused}
-use Rattle.octets.proofs.Cases.{cases, holds?}
+use Rattle.octets.proofs.Cases.{cases, holds?, both}
 use Rattle.octets.proofs.Little.{number-more}
 use Rattle.header_bytes.specs.Layout.{sourceEnd, headerEnd}
 use Rattle.header_bytes.specs.Reading.{measured}
@@ -27,7 +27,7 @@ use Rattle.header.specs.Read.{headerIn, readNumber, refusalOf, readHeader, read
 use Rattle.header.proofs.Apart.{read-measured, together, refused-read}
 use Rattle.header_facts.proofs.Trip.{unread}
 use Rattle.pieces.specs.Needed.{controlUnseen, needed}
-use Rattle.pieces.proofs.Prefix.{both, fault, fault-two, measured-by, neededRest, needed-by}
+use Rattle.pieces.proofs.Prefix.{fault, fault-two, measured-by, neededRest, needed-by}
 use Rattle.pieces.proofs.Prefix.{needed-bounds, needed-settled, needed-grows}
 use Rattle.pieces_facts.specs.Enough.{Enough}
 

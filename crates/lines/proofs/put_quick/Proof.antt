@@ -11,8 +11,9 @@ use lib.ListN.{length, take, drop, length-drop}
 use lib.Seq.{length-take-le}
 use Rattle.hex.proofs.Hex.{Decoding, decoding}
 use Rattle.lines.specs.Answer.{said}
-use Rattle.lines.specs.Place.{isAt}
-use Rattle.lines.proofs.Quick.{there, quick-fed}
+use Rattle.line_cutter.specs.Line.{isAt}
+use Rattle.line_cutter.proofs.Line.{there}
+use Rattle.lines.proofs.Quick.{quick-fed}
 use Rattle.octets.proofs.Little.{bytes-known}
 use Rattle.octets.proofs.Stored.{same}
 use Rattle.lines.proofs.put_quick.Statement.{statement}

@@ -10,12 +10,13 @@ use denote.Ref.{now}
 use lib.Dec.{leb}
 use lib.ListN.{length, take}
 use lib.Seq.{length-take-le}
+use Rattle.octets.proofs.Cases.{both}
 use Rattle.octets.specs.declared.Outcome.{Outcome}
 use Rattle.octets.specs.Bits.{bit}
 use Rattle.header_bytes.specs.Layout.{sourceEnd}
 use Rattle.header_bytes.proofs.Accepted.{measured-most}
 use Rattle.pieces.specs.Needed.{controlUnseen, needed}
-use Rattle.pieces.proofs.Prefix.{both, needed-short}
+use Rattle.pieces.proofs.Prefix.{needed-short}
 use Rattle.pieces.proofs.Looking.{refused-needs, accepted-needs}
 use Rattle.pieces.proofs.awaited_with.Statement.{statement}
 use Rattle.pieces.proofs.awaited_with.Tie as tie

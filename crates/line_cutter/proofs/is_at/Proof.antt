@@ -1,9 +1,9 @@
--- `lines::is_at` meets its contract.
+-- `line_cutter::is_at` meets its contract.
 -- Assumes nothing.
 use borrow.Author.Needs.{needs}
 use borrow.Author.Tests.{lt-ltb, le-ltb}
-use Rattle.lines.proofs.is_at.Statement.{statement}
-use Rattle.lines.proofs.is_at.Tie as tie
+use Rattle.line_cutter.proofs.is_at.Statement.{statement}
+use Rattle.line_cutter.proofs.is_at.Tie as tie
 
 pub is-at-spec : {M : Type 1} → statement M
 is-at-spec =

@@ -1,0 +1,4 @@
+pub mod Sender
+pub mod Counts
+pub mod Hearing
+pub mod Table

@@ -1,0 +1,14 @@
+pub mod Numbers
+pub mod Among
+pub mod Known
+pub mod Rows
+pub mod Sayings
+pub mod Plainly
+pub mod Bounds
+pub mod Lengths
+pub mod Stepping
+pub mod OneLine
+pub mod Finding
+pub mod Hexes
+pub mod Stores
+pub mod Whole
