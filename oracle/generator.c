@@ -1,7 +1,7 @@
 /* The generator of FORMAT.md for runs without Rust: makes the commands that digest commands stand for, and digests the dumps.
  *
  *   generator expand         reads digest commands (`d`), prints the commands that each stands for
- *   generator digest COUNT   reads dump lines, prints the FNV-1a digest of each COUNT of them
+ *   generator digest COUNT   reads dump lines, prints the FNV-1a digest of each COUNT of them, a read header's kept length taken as 0
  */
 #include <stdint.h>
 #include <stdio.h>
@@ -266,14 +266,33 @@ static int expand(void)
     return 0;
 }
 
+static uint64_t fnv(uint64_t value, int c)
+{
+    return (value ^ (byte)c) * 0x100000001b3u;
+}
+
 static int digest(long count)
 {
+    /* the record of a read header is the only third field of so many digits with a field behind it; the last two are the kept length */
+    const unsigned digits = 96;
     const uint64_t start = 0xcbf29ce484222325u;
     uint64_t value = start;
+    uint64_t without = start;
+    unsigned field = 0;
+    unsigned width = 0;
     long lines = 0;
     int c;
     while ((c = getchar()) != EOF) {
-        value = (value ^ (byte)c) * 0x100000001b3u;
+        if (width == digits - 2)
+            without = value;
+        if (field == 2 && width == digits && c == '\t')
+            value = fnv(fnv(without, '0'), '0');
+        value = fnv(value, c);
+        width++;
+        if (c == '\t' || c == '\n') {
+            field = c == '\t' ? field + 1 : 0;
+            width = 0;
+        }
         if (c == '\n' && ++lines == count) {
             printf("%016llx\n", (unsigned long long)value);
             value = start;

@@ -12,9 +12,10 @@ use Rattle.octets.specs.{Little.number, Little.Bytes, Outcome.accepted, Outcome
 use Rattle.octets.proofs.Cases.{cases, holds?}
 use Rattle.header_bytes.specs.{Layout.headerEnd, Reading.measured, Rewriting.sourceless}
 use Rattle.header_bytes.proofs.{Accepted.read-accepted, Rewrites.rewrite-read}
+use Rattle.header_parts.specs.Parts.{writtenOutcome}
 use Rattle.header.specs.declared.Header.{Header}
 use Rattle.header.specs.declared.HeaderRead.the-variants.{Read}
-use Rattle.header.specs.{Read.headerIn, Read.readHeader, Read.readOutcome, Write.writeHeader, Write.writtenOutcome}
+use Rattle.header.specs.{Read.headerIn, Read.readHeader, Read.readOutcome, Write.writeHeader}
 use Rattle.header.proofs.Apart.{read-measured, refused-read}
 use Rattle.header_facts.specs.Rewritten.{ownCounter}
 use Rattle.header_facts.proofs.Records.{record-written}

@@ -4,8 +4,9 @@ use Rattle.octets.specs.Words.{ℕ, _+_, cond, _&&_, List, [], _∷_, _++_, len
 use Rattle.octets.specs.{declared.Outcome.Outcome, Order.first, Outcome.accepted, Outcome.refused}
 use Rattle.octets.specs.{Buffer.after, Little.number}
 use Rattle.header_bytes.specs.{Layout.headerEnd, Cleared.headerCleared, Rewriting.rewriteHeader}
+use Rattle.header_parts.specs.Parts.{writtenOutcome}
 use Rattle.header.specs.declared.{HeaderRead.HeaderRead}
-use Rattle.header.specs.{Read.readNumber, Write.writeHeader, Write.writtenOutcome}
+use Rattle.header.specs.{Read.readNumber, Write.writeHeader}
 use Rattle.header.specs.declared.HeaderRead.the-variants.{Read, Refused}
 use Rattle.header_facts.specs.{Rewritten.ownCounter, RoundTrip.headerAfter}
 use Rattle.beacon.specs.Beacon.{refuses, readBeacon}

@@ -26,6 +26,8 @@ const SOURCE: usize = 19;
 
 const SECURED: usize = 30;
 
+const KEPT: usize = 47;
+
 // Type, flags, version and sequence number.
 fn dump_start(header: Header, out: &mut [u8], at: usize) -> usize {
     let frame_type = header.frame_type;
@@ -40,7 +42,7 @@ fn dump_start(header: Header, out: &mut [u8], at: usize) -> usize {
     put_u8(header.seq, out, next)
 }
 
-// The last byte is the kept length: no header keeps one.
+// The last byte is the kept length, 37 at most.
 fn dump_header(header: Header, out: &mut [u8], at: usize) -> usize {
     let destination = header.destination;
     let source = header.source;
@@ -49,7 +51,7 @@ fn dump_header(header: Header, out: &mut [u8], at: usize) -> usize {
     let next = dump_address(destination, out, next);
     let next = dump_address(source, out, next);
     let next = dump_optional(security, out, next);
-    put_u8(0, out, next)
+    put_u8((header.length % 256) as u8, out, next)
 }
 
 // A type or a version that is not known counts as 0.
@@ -70,17 +72,23 @@ fn build_control(s: &[u8], destination: OptionalAddress, source: OptionalAddress
     }
 }
 
+// It keeps the length that is given, and the right one where that is 0.
 pub(crate) fn build_header(s: &[u8]) -> Header {
     let destination = build_address(part(s, DESTINATION));
     let source = build_address(part(s, SOURCE));
     let control = build_control(s, destination, source);
-    Header::of(
+    let mut header = Header::of(
         control,
         u8_at(s, 7),
         destination,
         source,
         build_optional(part(s, SECURED)),
-    )
+    );
+    let kept = u8_at(s, KEPT);
+    if kept != 0 {
+        header.length = kept as usize;
+    }
+    header
 }
 
 pub(crate) fn read_header(s: &[u8], ask: Ask, room: &mut [u8], out: &mut [u8], at: usize) -> usize {

@@ -1,3 +1,4 @@
 pub mod Record
 pub mod Read
 pub mod Write
+pub mod Edit

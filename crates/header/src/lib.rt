@@ -1,15 +1,18 @@
-// The header of a frame: read from any slice, written into any slice, its lengths.
-ghost use Rattle.octets.specs.Words.{_+_, _-_, _≤_, min, _≡_, length, drop};
+// The header of a frame: read from any slice, written into any slice, its lengths, and the edits that a bridge makes.
+ghost use Rattle.octets.specs.Words.{_+_, _-_, min, _≡_, length, drop};
 ghost use Rattle.octets.specs.Buffer.{laid, after};
 ghost use Rattle.security.specs.Optional.{counterOf};
-ghost use Rattle.header.specs.Record.{headerOf, secured, ownsDestination, ownsSource};
-ghost use Rattle.header.specs.Record.{addressesEnd, headerLength, octetSize};
+ghost use Rattle.header.specs.Record.{headerOf, withLength, secured, octetSize};
 ghost use Rattle.header.specs.Read.{headerIn, readNumber, refusalOf, readHeader, readOutcome};
-ghost use Rattle.header.specs.Write.{bothPresent, lacksAddress, lacksCounter, writeHeader, writtenOutcome};
-ghost use Rattle.header.specs.Write.{writtenControl, fixedBytes, addressesBytes, headerBytes};
+ghost use Rattle.header_parts.specs.Parts.{writtenOutcome};
+ghost use Rattle.header.specs.Write.{writeHeader, writtenControl, fixedBytes, headerBytes};
+ghost use Rattle.header.specs.Edit.{destinationReplaced, sourceReplaced, sourceRemoved, compressionOff};
+ghost use Rattle.header.specs.Edit.{compressionOn, editNumber, editRecord};
+use address::Address;
 use address::OptionalAddress;
 use address::address_at;
-use address::put_address;
+use address_pair::put_addresses;
+use address_pair::share_pan;
 use frame_control::FrameControl;
 use frame_control::FrameType;
 use frame_control::FrameVersion;
@@ -18,6 +21,9 @@ use header_bytes::measure_header;
 use header_bytes::own_destination;
 use header_bytes::own_source;
 use header_bytes::source_end;
+use header_parts::HeaderWritten;
+use header_parts::parts_length;
+use header_parts::write_answer;
 use identifiers::PanId;
 use octets::Outcome;
 use octets::left;
@@ -27,6 +33,8 @@ use octets::u16_at;
 use security::OptionalCounter;
 use security::OptionalSecurityHeader;
 
+// The fields of the Rust crate, and the length: how many bytes the header takes in a frame, where the payload begins.
+// Who changes a part of it by hand makes the length right by `with_length`; writing refuses a wrong one with 8.
 pub struct Header {
     pub frame_type: FrameType,
     pub frame_pending: bool,
@@ -39,6 +47,7 @@ pub struct Header {
     pub destination: OptionalAddress,
     pub source: OptionalAddress,
     pub auxiliary_security_header: OptionalSecurityHeader,
+    pub length: usize,
 }
 
 // The refusals of reading: 1, 2, 3, 4 and 5.
@@ -95,30 +104,6 @@ impl HeaderRefusal {
     }
 }
 
-// What writing answers: the length, or the first refusal of 8, 1 (below three bytes), 6, 1 (addresses), 7, 1 (security
-// part).
-pub enum HeaderWritten {
-    Written(usize),
-    TooLarge,
-    Full,
-    Compression,
-    MissingCounter,
-}
-
-impl HeaderWritten {
-    pub fn outcome(self) -> Outcome
-        ensures { λ r. ⌜ r ≡ writtenOutcome self ⌝ }
-    {
-        match self {
-            HeaderWritten::Written(n) => Outcome::accepted(n),
-            HeaderWritten::TooLarge => Outcome::refused(8),
-            HeaderWritten::Full => Outcome::refused(1),
-            HeaderWritten::Compression => Outcome::refused(6),
-            HeaderWritten::MissingCounter => Outcome::refused(7),
-        }
-    }
-}
-
 // The record of the fields of a slice, by its frame control.
 fn header_in(s: &[u8], w: u16) -> Header
     ensures { λ r. ⌜ r ≡ headerIn (now (s .entry)) w ⌝ }
@@ -144,21 +129,37 @@ fn header_in(s: &[u8], w: u16) -> Header
     )
 }
 
-fn both_present(destination: OptionalAddress, source: OptionalAddress) -> bool
-    ensures { λ r. ⌜ r ≡ bothPresent destination source ⌝ }
-{
-    match destination {
-        OptionalAddress::Absent => false,
-        OptionalAddress::Present(_) => match source {
-            OptionalAddress::Absent => false,
-            OptionalAddress::Present(_) => true,
-        },
+// What an edit answers: the changed record, or refusal 12, PAN ids that are not to be shared, with the record as it was.
+pub enum HeaderEdited {
+    Edited(Header),
+    Unshared(Header),
+}
+
+impl HeaderEdited {
+    // Its number in document 02, 0 where the record is changed.
+    pub fn number(self) -> u8
+        ensures { λ r. ⌜ r ≡ editNumber self ⌝ }
+    {
+        match self {
+            HeaderEdited::Edited(_) => 0,
+            HeaderEdited::Unshared(_) => 12,
+        }
+    }
+
+    // The record afterwards.
+    pub fn header(self) -> Header
+        ensures { λ r. ⌜ r ≡ editRecord self ⌝ }
+    {
+        match self {
+            HeaderEdited::Edited(header) => header,
+            HeaderEdited::Unshared(header) => header,
+        }
     }
 }
 
 impl Header {
-    // The record of a frame control's type, version and flags, a sequence number, two addresses and a security header. The
-    // frame control's security bit and modes are not looked at: the parts tell them.
+    // The record of a frame control's type, version and flags, a sequence number, two addresses and a security header,
+    // with its length. The frame control's security bit and modes are not looked at: the parts tell them.
     pub fn of(
         control: FrameControl,
         seq: u8,
@@ -170,7 +171,7 @@ impl Header {
     {
         let frame_type = control.frame_type;
         let version = control.version;
-        Header {
+        let parts = Header {
             frame_type,
             frame_pending: control.frame_pending,
             ack_request: control.ack_request,
@@ -182,7 +183,21 @@ impl Header {
             destination,
             source,
             auxiliary_security_header,
-        }
+            length: 0,
+        };
+        parts.with_length()
+    }
+
+    // The same record with the length of its parts, whatever was kept.
+    pub fn with_length(mut self) -> Self
+        ensures { λ r. ⌜ r ≡ withLength self ⌝ }
+    {
+        let destination = self.destination;
+        let source = self.source;
+        let security = self.auxiliary_security_header;
+        let length = parts_length(self.pan_id_compress, destination, source, security);
+        self.length = length;
+        self
     }
 
     // Reads the header at the beginning of a slice.
@@ -215,103 +230,14 @@ impl Header {
         security.is_present()
     }
 
-    // The Rust crate's number, blind to compression and security. The payload begins behind `occupied` bytes, not
-    // behind these.
+    // The Rust crate's number, blind to compression and security. The payload begins behind `length` bytes, not behind
+    // these.
     pub fn get_octet_size(self) -> usize
         ensures { λ r. ⌜ r ≡ octetSize self ⌝ }
     {
         let destination = self.destination;
         let source = self.source;
         3 + destination.octets(true) + source.octets(true)
-    }
-
-    // The destination's PAN id stands in the frame.
-    fn owns_destination(self) -> bool
-        ensures { λ r. ⌜ r ≡ ownsDestination self ⌝ }
-    {
-        let destination = self.destination;
-        let to = destination.mode();
-        1 < to.to_bits()
-    }
-
-    // The source's PAN id stands in the frame.
-    fn owns_source(self) -> bool
-        ensures { λ r. ⌜ r ≡ ownsSource self ⌝ }
-    {
-        let source = self.source;
-        if self.pan_id_compress {
-            return false;
-        }
-        let from = source.mode();
-        1 < from.to_bits()
-    }
-
-    // Where the addresses end.
-    fn addresses_end(self) -> usize
-        ensures { λ r. ⌜ r ≡ addressesEnd self ⌝ }
-        ensures { λ r. ⌜ r ≤ 23 ⌝ }
-    {
-        let destination = self.destination;
-        let source = self.source;
-        3 + destination.octets(self.owns_destination()) + source.octets(self.owns_source())
-    }
-
-    // How many bytes the header really occupies in a frame.
-    pub fn occupied(self) -> usize
-        ensures { λ r. ⌜ r ≡ headerLength self ⌝ }
-        ensures { λ r. ⌜ r ≤ 37 ⌝ }
-    {
-        let security = self.auxiliary_security_header;
-        self.addresses_end() + security.octets()
-    }
-
-    fn lacks_address(self) -> bool
-        ensures { λ r. ⌜ r ≡ lacksAddress self ⌝ }
-    {
-        let destination = self.destination;
-        let source = self.source;
-        if self.pan_id_compress {
-            !both_present(destination, source)
-        } else {
-            false
-        }
-    }
-
-    fn lacks_counter(self, counter: OptionalCounter) -> bool
-        ensures { λ r. ⌜ r ≡ lacksCounter self counter ⌝ }
-    {
-        if self.has_security() {
-            counter.is_missing()
-        } else {
-            false
-        }
-    }
-
-    // What writing into room bytes answers.
-    fn write_answer(self, counter: OptionalCounter, room: usize) -> HeaderWritten
-        ensures { λ r. ⌜ r ≡ writeHeader self counter room ⌝ }
-    {
-        let security = self.auxiliary_security_header;
-        if security.too_large() {
-            return HeaderWritten::TooLarge;
-        }
-        if room < 3 {
-            return HeaderWritten::Full;
-        }
-        if self.lacks_address() {
-            return HeaderWritten::Compression;
-        }
-        if room < self.addresses_end() {
-            return HeaderWritten::Full;
-        }
-        if self.lacks_counter(counter) {
-            return HeaderWritten::MissingCounter;
-        }
-        let n = self.occupied();
-        if room < n {
-            return HeaderWritten::Full;
-        }
-        HeaderWritten::Written(n)
     }
 
     // The frame control as it is written: the flags of bits 8 and 9 are false.
@@ -322,11 +248,12 @@ impl Header {
         let version = self.version;
         let to = self.destination;
         let from = self.source;
+        let part = self.auxiliary_security_header;
         let destination = to.mode();
         let source = from.mode();
         FrameControl {
             frame_type,
-            security: self.has_security(),
+            security: part.is_present(),
             frame_pending: self.frame_pending,
             ack_request: self.ack_request,
             pan_id_compress: self.pan_id_compress,
@@ -348,24 +275,15 @@ impl Header {
         put(self.seq as u64, 1, out, next)
     }
 
-    // Stores the addresses, as much as has room, and returns the place behind.
-    fn put_addresses(self, out: &mut [u8], at: usize) -> usize
-        ensures { λ r. ⌜ r ≡ at + min (length (addressesBytes self)) (length (now (out .entry)) - at) ⌝ }
-        ensures { λ r. ⌜ now (out .exit) ≡ laid (now (out .entry)) at (addressesBytes self) ⌝ }
-    {
-        let destination = self.destination;
-        let source = self.source;
-        let next = put_address(destination, self.owns_destination(), out, at);
-        put_address(source, self.owns_source(), out, next)
-    }
-
     // Stores the whole header, as much as has room.
     fn put(self, out: &mut [u8], at: usize, counter: u32)
         ensures { λ r. ⌜ now (out .exit) ≡ laid (now (out .entry)) at (headerBytes self counter) ⌝ }
     {
-        let next = self.put_fixed(out, at);
-        let next = self.put_addresses(out, next);
+        let destination = self.destination;
+        let source = self.source;
         let security = self.auxiliary_security_header;
+        let next = self.put_fixed(out, at);
+        let next = put_addresses(self.pan_id_compress, destination, source, out, next);
         security.put(out, next, counter);
     }
 
@@ -375,7 +293,18 @@ impl Header {
         ensures { λ r. ⌜ now (out .exit) ≡
             after (writtenOutcome r) (now (out .entry)) at (headerBytes self (counterOf counter)) ⌝ }
     {
-        let answer = self.write_answer(counter, left(out, at));
+        let destination = self.destination;
+        let source = self.source;
+        let security = self.auxiliary_security_header;
+        let answer = write_answer(
+            self.length,
+            self.pan_id_compress,
+            destination,
+            source,
+            security,
+            counter,
+            left(out, at),
+        );
         if let HeaderWritten::Written(_) = answer {
             self.put(out, at, counter.number());
         }
@@ -389,5 +318,63 @@ impl Header {
             after (writtenOutcome r) (now (out .entry)) 0 (headerBytes self (counterOf counter)) ⌝ }
     {
         self.write_at(out, 0, counter)
+    }
+
+    // Replaces the destination, or adds it where there is none, and switches compression off.
+    pub fn replace_destination(mut self, address: Address) -> Self
+        ensures { λ r. ⌜ r ≡ destinationReplaced self address ⌝ }
+    {
+        self.pan_id_compress = false;
+        let edited = Header {
+            destination: OptionalAddress::Present(address),
+            ..self
+        };
+        edited.with_length()
+    }
+
+    // Replaces the source, or adds it where there is none, and switches compression off.
+    pub fn replace_source(mut self, address: Address) -> Self
+        ensures { λ r. ⌜ r ≡ sourceReplaced self address ⌝ }
+    {
+        self.pan_id_compress = false;
+        let edited = Header {
+            source: OptionalAddress::Present(address),
+            ..self
+        };
+        edited.with_length()
+    }
+
+    // Removes the source and switches compression off, also where there is no source.
+    pub fn remove_source(mut self) -> Self
+        ensures { λ r. ⌜ r ≡ sourceRemoved self ⌝ }
+    {
+        self.pan_id_compress = false;
+        let edited = Header {
+            source: OptionalAddress::Absent,
+            ..self
+        };
+        edited.with_length()
+    }
+
+    // Switches compression off: the source's PAN id stands in the frame again.
+    pub fn switch_compression_off(mut self) -> Self
+        ensures { λ r. ⌜ r ≡ compressionOff self ⌝ }
+    {
+        self.pan_id_compress = false;
+        self.with_length()
+    }
+
+    // Switches compression on, unless an address is missing or the PAN ids differ.
+    pub fn switch_compression_on(mut self) -> HeaderEdited
+        ensures { λ r. ⌜ r ≡ compressionOn self ⌝ }
+    {
+        let destination = self.destination;
+        let source = self.source;
+        if share_pan(destination, source) {
+            self.pan_id_compress = true;
+            HeaderEdited::Edited(self.with_length())
+        } else {
+            HeaderEdited::Unshared(self)
+        }
     }
 }

@@ -3,7 +3,7 @@
 use Prim.Native.Nat.{ℕ, suc, _+_, _-_, _*_, _/_, _%_, _^_, _≤_, _<_}
 use native.Mathlib.Nat.{div-one, mul-one, add-zero}
 use native.Mathlib.Omega.{arith}
-use mathlib.Core.Bool.{Bool, false, cond}
+use mathlib.Core.Bool.{Bool, cond}
 use mathlib.Core.List.{List, [], _∷_, _++_, append-nil}
 use mathlib.Core.Path.{_≡_, sym, ap, _∙_}
 use lib.ListN.{length, getD, take, drop}
@@ -107,19 +107,7 @@ module _ (s : List ℕ) (b : Bytes s) (p : Passed s (number s 0 2)) where
   from = panSize own-from + addressSize (bits w 14 2)
 
   control-written : writtenControl header ≡ quietControl (controlOf w)
-  control-written =
-      λ i. record {
-        «frame_type» = controlOf w .«frame_type»;
-        security = part-present (bit w 3) s (sourceEnd w) i;
-        «frame_pending» = controlOf w .«frame_pending»;
-        «ack_request» = controlOf w .«ack_request»;
-        «pan_id_compress» = controlOf w .«pan_id_compress»;
-        «seq_no_suppress» = false;
-        «ie_present» = false;
-        destination = to-mode s p i;
-        version = controlOf w .version;
-        source = from-mode s p i;
-      }
+  control-written = rw (part-present (bit w 3) s (sourceEnd w), to-mode s p, from-mode s p)
 
   word : w ≡ getD s 0 0 + 256 * getD s 1 0
   word = number-join s 0 1 1 ∙ (λ i. number-one s 0 i + 256 * number-one s 1 i)

@@ -5,7 +5,7 @@ use native.Mathlib.Omega.{arith}
 use mathlib.Core.Bool.{Bool, true, false, not, _&&_, cond}
 use mathlib.Core.List.{List, [], _++_, append-assoc}
 use mathlib.Core.Path.{_≡_, refl, sym, ap, _∙_}
-use borrow.Author.Tests.{ltb-false}
+use borrow.Author.Tests.{ltb-false, eqb-true, not-false}
 use lib.Dec.{ltb, eqb}
 use lib.ListN.{length, length-append}
 use Rattle.octets.specs.Bits.{bits, bit}
@@ -25,25 +25,26 @@ use Rattle.address.specs.declared.OptionalAddress.the-variants as Address
 use Rattle.address.specs.Address.{modeOf, sharedPan}
 use Rattle.address.specs.Layout.{addressLength, addressIn, addressBytes, sharing}
 use Rattle.address.proofs.Addresses.{address-length, address-back}
+use Rattle.address_pair.specs.Pair.{bothPresent}
 use Rattle.security.specs.declared.OptionalCounter.{OptionalCounter}
 use Rattle.security.specs.declared.OptionalSecurityHeader.{OptionalSecurityHeader}
 use Rattle.security.specs.declared.OptionalSecurityHeader.the-variants.{Absent, Present}
 use Rattle.security.specs.Optional.{isPresent, optionalTooLarge, optionalLength, optionalIn, optionalBytes, counterOf}
 use Rattle.security.specs.Security.{levelOf}
 use Rattle.security.proofs.Security.{security-in, length-read}
+use Rattle.header_parts.specs.declared.HeaderWritten.the-variants.{Written}
 use Rattle.header.specs.declared.Header.{Header}
 use Rattle.header.specs.declared.HeaderRead.the-variants.{Read}
-use Rattle.header.specs.declared.HeaderWritten.the-variants.{Written}
 use Rattle.header.specs.Record.{headerOf, secured, ownsDestination, ownsSource, addressesEnd, headerLength}
 use Rattle.header.specs.Read.{destinationIn, sourceIn, readBy, readHeader}
-use Rattle.header.specs.Write.{bothPresent, writeHeader, writtenControl, fixedBytes, headerBytes}
+use Rattle.header.specs.Write.{writeHeader, writtenControl, fixedBytes, headerBytes}
 use Rattle.header.proofs.Writing.{fixed-length, header-length, written-passes}
 use Rattle.header.proofs.Apart.{together}
 use Rattle.header_facts.specs.Told.{partTold, headerTold, Small, SmallPart}
 use Rattle.header_facts.proofs.Fields.{to-size, from-size, security-size}
 
 -- an address whose PAN id stands in the frame is read as it was
-owned-back : (shared : PanId) (a : OptionalAddress) → sharing (ltb 1 (modeBits (modeOf a))) shared a ≡ a
+pub owned-back : (shared : PanId) (a : OptionalAddress) → sharing (ltb 1 (modeBits (modeOf a))) shared a ≡ a
 owned-back shared Address.Absent = refl
 owned-back shared (Address.Present (Short p a)) = refl
 owned-back shared (Address.Present (Extended p a)) = refl
@@ -68,7 +69,7 @@ module _ (counter : ℕ) (before after : List ℕ) (at : ℕ) (e : length before
       ap (λ (n : ℕ). at + n) (sym (security-size (whole (Present k)) at) ∙ length-read k counter before after at e (omega arith))
 
 -- with both addresses, or without compression, there is a PAN id to share
-both-shared : (compress : Bool) (d s : OptionalAddress) → (compress && not (bothPresent d s)) ≡ false →
+pub both-shared : (compress : Bool) (d s : OptionalAddress) → (compress && not (bothPresent d s)) ≡ false →
     (compress && eqb (modeBits (modeOf d)) 0) ≡ false
 both-shared false d s e = refl
 both-shared true Address.Absent s e = e
@@ -214,5 +215,24 @@ pub record-side : (h : Header) (counter : OptionalCounter) (room n : ℕ) (more 
     readHeader (headerBytes h (counterOf counter) ++ more) ≡ Read (headerTold h (counterOf counter)) n
 record-side h counter room n more small fits e =
     let q = written-passes h counter room n e in
-    let shared = both-shared (h .«pan_id_compress») (h .destination) (h .source) (q .0 .1 .1 .0) in
-    header-back h (counterOf counter) more small fits (q .0 .0) shared ∙ ap (Read (headerTold h (counterOf counter))) (q .1)
+    let shared = both-shared (h .«pan_id_compress») (h .destination) (h .source) (q .0 .1 .1 .1 .0) in
+    header-back h (counterOf counter) more small fits (q .0 .1 .0) shared ∙ ap (Read (headerTold h (counterOf counter))) (q .1)
+
+-- neither the PAN id of a source nor a counter alters a length
+shared-mode : (own : Bool) (shared : PanId) (a : OptionalAddress) → modeOf (sharing own shared a) ≡ modeOf a
+shared-mode own shared Address.Absent = refl
+shared-mode own shared (Address.Present (Short p a)) = refl
+shared-mode own shared (Address.Present (Extended p a)) = refl
+
+told-length : (k : OptionalSecurityHeader) (counter : ℕ) → optionalLength (partTold k counter) ≡ optionalLength k
+told-length Absent counter = refl
+told-length (Present k) counter = refl
+
+-- so the writer accepts a record only where it keeps the right length, and what is read back keeps the same
+pub written-kept : (h : Header) (counter : OptionalCounter) (room n : ℕ) → writeHeader h counter room ≡ Written n →
+    (h .length ≡ n) × (headerTold h (counterOf counter) .length ≡ n)
+written-kept h counter room n e =
+    let q = written-passes h counter room n e in
+    let same = eqb-true (h .length) (headerLength h) (not-false (eqb (h .length) (headerLength h)) (q .0 .0)) in
+    let mode = shared-mode (ownsSource h) (sharedPan (h .destination)) (h .source) in
+    (same ∙ q .1, rw (mode, told-length (h .«auxiliary_security_header») (counterOf counter)) (q .1))

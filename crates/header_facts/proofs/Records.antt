@@ -18,17 +18,19 @@ use Rattle.header_bytes.specs.Reading.{answered}
 use Rattle.header_bytes.specs.Rewriting.{sourceless, rewriteHeader}
 use Rattle.header_bytes.proofs.Passed.{Passed}
 use Rattle.header_bytes.proofs.Rewrites.{roomTests, rewrite-refused, rewrite-read}
+use Rattle.header_parts.specs.Parts.{writeParts, writtenOutcome}
 use Rattle.header.specs.declared.Header.{Header}
 use Rattle.header.specs.declared.HeaderRead.{HeaderRead}
 use Rattle.header.specs.declared.HeaderRead.the-variants.{Read, Refused}
 use Rattle.header.specs.Record.{addressesEnd, headerLength}
 use Rattle.header.specs.Read.{headerIn, readHeader, readOutcome}
-use Rattle.header.specs.Write.{writeHeader, writtenOutcome}
+use Rattle.header.specs.Write.{writeHeader}
 use Rattle.header.proofs.Apart.{read-measured, apart}
 use Rattle.header.proofs.Bounds.{refusal-some}
 use Rattle.header_facts.specs.Rewritten.{ownCounter, rewritten, writtenAfter}
 use Rattle.header_facts.proofs.Fields.{length-told}
-use Rattle.header_facts.proofs.Trip.{lacks, level-fits, counter-there, header-rewritten}
+use Rattle.header_facts.proofs.Fit.{length-right, counter-there}
+use Rattle.header_facts.proofs.Trip.{lacks, level-fits, header-rewritten}
 
 -- writing's tests of a record that was read are those of its bytes
 module _ (s : List ℕ) (b : Bytes s) (p : Passed s (number s 0 2)) where
@@ -40,25 +42,26 @@ module _ (s : List ℕ) (b : Bytes s) (p : Passed s (number s 0 2)) where
 
   tests : (room : ℕ) →
       writtenOutcome (writeHeader header (ownCounter header) room) ≡ answered (roomTests w (headerEnd s w) room) (headerEnd s w)
-  unfolding writeHeader
+  unfolding writeParts
   tests room =
+      let kept = length-right header refl in
       let level = level-fits s b p in
       let long = length-told s p in
       let missing = lacks s b p in
       let counter = counter-there (header .«auxiliary_security_header») in
-      cases (holds? (ltb room 3)) (λ t. simp (level, t)) (λ three.
-      cases (holds? (sourceless w)) (λ t. simp (level, three, missing ∙ t, t)) (λ both.
+      cases (holds? (ltb room 3)) (λ t. simp (kept, level, t)) (λ three.
+      cases (holds? (sourceless w)) (λ t. simp (kept, level, three, missing ∙ t, t)) (λ both.
       cases (holds? (ltb room (headerEnd s w)))
       (λ t.
       let short : ltb room (headerLength header) ≡ true = ap (ltb room) long ∙ t in
       cases (holds? (ltb room (addressesEnd header)))
-      (λ a. simp (level, three, missing ∙ both, both, a, t))
-      (λ a. simp (level, three, missing ∙ both, both, a, counter, short, t)))
+      (λ a. simp (kept, level, three, missing ∙ both, both, a, t))
+      (λ a. simp (kept, level, three, missing ∙ both, both, a, counter, short, t)))
       (λ f.
       let room-there : headerEnd s w ≤ room = ltb-false room (headerEnd s w) f in
       let whole : ltb room (headerLength header) ≡ false = ap (ltb room) long ∙ f in
       let addresses : ltb room (addressesEnd header) ≡ false = le-ltb room (addressesEnd header) (omega (arith, long)) in
-      simp (level, three, missing ∙ both, both, addresses, counter, whole, f) (ap accepted long))))
+      simp (kept, level, three, missing ∙ both, both, addresses, counter, whole, f) (ap accepted long))))
 
 -- what the record answers
 pub record-written : (s : List ℕ) (h : Header) (n room : ℕ) → Bytes s → readHeader s ≡ Read h n →

@@ -1,12 +1,12 @@
 -- Demand 3 for a header, point by point, and with every byte of a buffer.
 -- Assumes nothing.
-use Prim.Native.Nat.{ℕ, _+_, _-_, _^_, _≤_, _<_}
+use Prim.Native.Nat.{ℕ, _+_, _-_, _≤_}
 use native.Mathlib.Omega.{arith}
 use mathlib.Core.Bool.{Bool, true, false, true≢false, cond, not, _&&_}
 use mathlib.Core.List.{List, _++_}
 use mathlib.Core.Path.{_≡_, refl, sym, ap, _∙_}
 use borrow.Author.Tests.{le-ltb}
-use lib.Dec.{ltb, eqb}
+use lib.Dec.{eqb}
 use lib.ListN.{length, take, drop, length-append}
 use lib.Seq.{drop-at, length-take-le}
 use Rattle.octets.specs.Bits.{bits, bit}
@@ -28,35 +28,29 @@ use Rattle.address.specs.declared.OptionalAddress.the-variants as Address
 use Rattle.address.specs.Address.{modeOf, sharedPan}
 use Rattle.address.specs.Layout.{addressIn, sharing}
 use Rattle.address.proofs.Addresses.{address-more, address-small, address-shares, shared-small}
-use Rattle.security.specs.declared.OptionalSecurityHeader.{OptionalSecurityHeader}
-use Rattle.security.specs.declared.OptionalSecurityHeader.the-variants.{Absent, Present}
-use Rattle.security.specs.Optional.{isPresent, optionalTooLarge, optionalIn, missing, counterOf, counterRead}
+use Rattle.address_pair.specs.Pair.{bothPresent}
+use Rattle.security.specs.declared.OptionalSecurityHeader.the-variants.{Present}
+use Rattle.security.specs.Optional.{optionalTooLarge, optionalIn}
 use Rattle.security.specs.Security.{lengthIn, securityIn, levelOf}
 use Rattle.security.proofs.Security.{security-small, counter-small, security-told, security-more}
+use Rattle.header_parts.specs.Parts.{writeParts}
+use Rattle.header_parts.specs.declared.HeaderWritten.the-variants.{Written}
 use Rattle.header.specs.declared.Header.{Header}
 use Rattle.header.specs.declared.HeaderRead.the-variants.{Read}
-use Rattle.header.specs.declared.HeaderWritten.the-variants.{Written}
-use Rattle.header.specs.Record.{headerOf, addressesEnd, headerLength}
+use Rattle.header.specs.Record.{headerOf, headerLength}
 use Rattle.header.specs.Read.{destinationIn, sourceIn, headerIn, readBy, readHeader}
-use Rattle.header.specs.Write.{bothPresent, lacksAddress, writeHeader, headerBytes}
-use Rattle.header.proofs.Writing.{header-length}
+use Rattle.header.specs.Write.{lacksAddress, writeHeader, headerBytes}
 use Rattle.header.proofs.Apart.{together, apart}
-use Rattle.header_facts.specs.Rewritten.{quiet, lost, ownCounter, rewritten, Rewritten}
+use Rattle.header_facts.specs.Rewritten.{lost, ownCounter, rewritten, Rewritten}
 use Rattle.header_facts.specs.RoundTrip.{headerAfter, RoundTrip}
-use Rattle.header_facts.specs.Told.{partTold, SmallPart, Small}
+use Rattle.header_facts.specs.Told.{Small}
 use Rattle.header_facts.proofs.Fields.{ownTo, ownFrom, to-bits, from-bits, owns-from, destination-size, source-size}
 use Rattle.header_facts.proofs.Fields.{part-whole, length-told}
 use Rattle.header_facts.proofs.Again.{header-again}
-use Rattle.header_facts.proofs.Back.{header-back}
+use Rattle.header_facts.proofs.Fit.{FitPart, Fit, accepted as fit-accepted, long as fit-long, again as fit-again}
 
--- what holds of a security part that was read
-record PartFacts (k : OptionalSecurityHeader) : Type 0 where
-  pub small : SmallPart k
-  pub level : optionalTooLarge k ≡ false
-  pub counter : counterOf (counterRead k) < 256 ^ 4
-  pub same : partTold k (counterOf (counterRead k)) ≡ k
-
-part-facts : (on : Bool) (s : List ℕ) (at : ℕ) → Bytes s → (on ≡ true → at + lengthIn s at ≤ length s) → PartFacts (optionalIn on s at)
+-- what was read fits
+part-facts : (on : Bool) (s : List ℕ) (at : ℕ) → Bytes s → (on ≡ true → at + lengthIn s at ≤ length s) → FitPart (optionalIn on s at)
 part-facts false s at b h = record { small = tt; level = refl; counter = omega arith; same = refl }
 part-facts true s at b h =
     let whole = h refl in
@@ -73,11 +67,6 @@ part-more : (on : Bool) (s t : List ℕ) (at : ℕ) → (on ≡ true → at + le
     optionalIn on (s ++ t) at ≡ optionalIn on s at
 part-more false s t at h = refl
 part-more true s t at h = ap Present (security-more s t at (h refl))
-
--- no refusal 7 with the counter that was read
-pub counter-there : (k : OptionalSecurityHeader) → (isPresent k && missing (counterRead k)) ≡ false
-counter-there Absent = refl
-counter-there (Present k) = refl
 
 -- with a destination to share its PAN id, an address is missing exactly where the source is
 pub source-missing : (compress : Bool) (d s : OptionalAddress) → (compress && eqb (modeBits (modeOf d)) 0) ≡ false →
@@ -148,7 +137,7 @@ module _ (s : List ℕ) (b : Bytes s) (p : Passed s (number s 0 2)) where
   abbrev size : ℕ
   size = headerEnd s word
 
-  facts : PartFacts (header .«auxiliary_security_header»)
+  facts : FitPart (header .«auxiliary_security_header»)
   facts = part-facts (bit word 3) s (sourceEnd word) b (part-whole s p)
 
   pub level-fits : optionalTooLarge (header .«auxiliary_security_header») ≡ false
@@ -174,38 +163,42 @@ module _ (s : List ℕ) (b : Bytes s) (p : Passed s (number s 0 2)) where
       source-missing (bit word 6) (header .destination) (header .source) shared
       ∙ ap (λ (n : ℕ). bit word 6 && eqb n 0) (from-bits s p)
 
+  fit : Fit header
+  fit = record {
+    small = small;
+    part = facts;
+    sound = record {
+      shared = shared;
+      source = ap (λ (own : Bool). sharing own (sharedPan (destinationIn s word)) (header .source)) (owns-from s p)
+          ∙ address-shares (ownFrom s p) (sharedPan (destinationIn s word)) (modeIn (bits word 14 2)) s (destinationEnd word);
+      kept = refl;
+    };
+  }
+
   accepted : (room : ℕ) → sourceless word ≡ false → size ≤ room → writeHeader header (ownCounter header) room ≡ Written size
-  unfolding writeHeader
   accepted room e h =
       let told = length-told s p in
-      let three : ltb room 3 ≡ false = le-ltb room 3 (omega (arith, told)) in
-      let addresses : ltb room (addressesEnd header) ≡ false = le-ltb room (addressesEnd header) (omega (arith, told)) in
-      let whole : ltb room (headerLength header) ≡ false = le-ltb room (headerLength header) (omega (arith, told)) in
-      simp (facts .level, three, lacks ∙ e, addresses, counter-there (header .«auxiliary_security_header»), whole) (ap Written told)
+      fit-accepted header fit room (lacks ∙ e) (omega (arith, told)) ∙ ap Written told
 
   again : (more : List ℕ) → readHeader (rewritten header ++ more) ≡ Read (lost header) size
-  again more =
-      let d = destinationIn s word in
-      let source = ap (λ (own : Bool). sharing own (sharedPan d) (header .source)) (owns-from s p)
-      ∙ address-shares (ownFrom s p) (sharedPan d) (modeIn (bits word 14 2)) s (destinationEnd word) in
-      header-back header (counterOf (ownCounter header)) more small (facts .counter) (facts .level) shared
-      ∙ (λ i. Read (quiet header (source i) (facts .same i)) (length-told s p i))
+  again more = fit-again header fit more ∙ ap (Read (lost header)) (length-told s p)
 
   long : length (rewritten header) ≡ size
-  long = header-length header (counterOf (ownCounter header)) ∙ length-told s p
+  long = fit-long header fit ∙ length-told s p
 
   settled : rewritten (lost header) ≡ rewritten header
   unfolding headerBytes
   settled = refl
 
   once-more : (room : ℕ) → sourceless word ≡ false → size ≤ room → writeHeader (lost header) (ownCounter header) room ≡ Written size
-  unfolding writeHeader
+  unfolding writeParts
   once-more = accepted
 
   points : Rewritten s header size
   points = record {
     within = p .whole;
-    occupied = length-told s p;
+    kept = length-told s p;
+    parts = length-told s p;
     accepted = accepted;
     written = header-again s b p;
     long = long;
@@ -223,6 +216,17 @@ header-rewritten s h n b e =
     let q = apart s h n e in
     let points : Rewritten s (headerIn s (number s 0 2)) (headerEnd s (number s 0 2)) = points s b (q .passed) in
     rw (q .size) at (rw (q .header) at points)
+
+-- A record that was read is fit to be written with its own counter.
+pub fit-read : (s : List ℕ) (h : Header) (n : ℕ) → Bytes s → readHeader s ≡ Read h n → Fit h
+fit-read s h n b e = let q = apart s h n e in rw (q .header) at (fit s b (q .passed))
+
+-- It keeps the sum of its parts, which is the length that reading answers.
+pub kept-read : (s : List ℕ) (h : Header) (n : ℕ) → readHeader s ≡ Read h n → (h .length ≡ n) × (headerLength h ≡ n)
+kept-read s h n e =
+    let q = apart s h n e in
+    let told = length-told s (q .passed) ∙ q .size in
+    (ap (λ (h : Header). h .length) (sym (q .header)) ∙ told, ap headerLength (sym (q .header)) ∙ told)
 
 -- What reading answers does not depend on bytes behind an accepted header.
 pub unread : (s : List ℕ) (h : Header) (n : ℕ) (more : List ℕ) → readHeader s ≡ Read h n → readHeader (s ++ more) ≡ Read h n

@@ -1,3 +1,4 @@
 pub mod Rewritten
 pub mod RoundTrip
 pub mod Told
+pub mod Edited

@@ -5,12 +5,13 @@ use Rattle.header_bytes.specs.{Cleared.headerCleared, Rewriting.sourceless}
 use Rattle.address.specs.declared.{OptionalAddress.OptionalAddress}
 use Rattle.security.specs.declared.{OptionalCounter.OptionalCounter, OptionalSecurityHeader.OptionalSecurityHeader}
 use Rattle.security.specs.Optional.{counterOf, counterRead}
+use Rattle.header_parts.specs.Parts.{writtenOutcome}
+use Rattle.header_parts.specs.declared.HeaderWritten.the-variants.{Written}
 use Rattle.header.specs.declared.{Header.Header, HeaderRead.HeaderRead}
 use Rattle.header.specs.Record.{headerOf, headerLength}
 use Rattle.header.specs.{Read.readNumber, Read.readHeader}
-use Rattle.header.specs.{Write.writeHeader, Write.writtenOutcome, Write.writtenControl, Write.headerBytes}
+use Rattle.header.specs.{Write.writeHeader, Write.writtenControl, Write.headerBytes}
 use Rattle.header.specs.declared.HeaderRead.the-variants.{Read, Refused}
-use Rattle.header.specs.declared.HeaderWritten.the-variants.{Written}
 
 -- the record with the two flags that writing loses, `seq_no_suppress` and `ie_present`, false, and with the source and
 -- security part given
@@ -34,9 +35,10 @@ writtenAfter (Read h n) room = writtenOutcome (writeHeader h (ownCounter h) room
 
 -- what holds of a header h of n bytes that was read from s
 pub record Rewritten (s : List ℕ) (h : Header) (n : ℕ) : Type 0 where
-  -- it lies in the input, and its record tells how many bytes it occupies
+  -- it lies in the input, and its record keeps how many bytes it occupies, which are those of its parts
   pub within : n ≤ length s
-  pub occupied : headerLength h ≡ n
+  pub kept : h .length ≡ n
+  pub parts : headerLength h ≡ n
   -- with room, writing it again is accepted, unless it is compressed without a source
   pub accepted : (room : ℕ) → sourceless (number s 0 2) ≡ false → n ≤ room →
       writeHeader h (ownCounter h) room ≡ Written n

@@ -3,9 +3,10 @@
 use Rattle.octets.specs.Words.{ℕ, _+_, _-_, _≤_, List, _++_, _≡_, length, take, drop}
 use Rattle.octets.specs.Buffer.{after}
 use Rattle.header_bytes.specs.Cleared.{headerCleared}
-use Rattle.header.specs.{declared.Header.Header, Read.readHeader, Write.writeHeader, Write.writtenOutcome}
+use Rattle.header_parts.specs.Parts.{writtenOutcome}
+use Rattle.header_parts.specs.declared.HeaderWritten.the-variants.{Written}
+use Rattle.header.specs.{declared.Header.Header, Read.readHeader, Write.writeHeader}
 use Rattle.header.specs.declared.HeaderRead.the-variants.{Read}
-use Rattle.header.specs.declared.HeaderWritten.the-variants.{Written}
 use Rattle.header_facts.specs.Rewritten.{lost, ownCounter, rewritten}
 
 -- what writing h at a place with its own counter leaves of a buffer, as the contract says it

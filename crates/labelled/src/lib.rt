@@ -1,9 +1,10 @@
 // A line that is a label, a tab and a frame in hex: taken apart, and what is stored to answer it. A store takes as much
 // as has room and returns the place behind it, so that nothing is asked of a caller.
-ghost use Rattle.octets.specs.Words.{[], _∷_, _≡_, length};
+ghost use Rattle.octets.specs.Words.{_%_, [], _∷_, _≡_, length};
 ghost use Rattle.octets.specs.Buffer.{laid};
 ghost use Rattle.labelled.specs.Answer.{bad};
-ghost use Rattle.labelled.specs.Decimal.{decimal};
+ghost use Rattle.labelled.specs.Decimal.{decimal, column};
+ghost use Rattle.labelled.specs.Hexed.{hexDigit, hexBy, hexed};
 ghost use Rattle.labelled.specs.Parted.{frameBy, parted};
 ghost use Rattle.labelled.specs.Put.{Put};
 use hex::decode_by;
@@ -87,4 +88,48 @@ pub fn put_decimal(n: usize, out: &mut [u8], at: usize) -> usize
     from -= 1;
     digits[from] = b'0' + rest as u8;
     copy(&digits[from..], out, at)
+}
+
+// Stores a tab and a number in decimal.
+pub fn put_column(n: usize, out: &mut [u8], at: usize) -> usize
+    ensures { λ r. ⌜ Put (now (out .entry)) at (column n) (now (out .exit)) r ⌝ }
+{
+    let next = put_byte(b'\t', out, at);
+    put_decimal(n, out, next)
+}
+
+// The last digit of a number in hex, in lower case.
+pub fn last_hex_digit(n: u64) -> u8
+    ensures { λ r. ⌜ r ≡ hexDigit (n % 16) ⌝ }
+{
+    let digit = (n % 16) as u8;
+    if digit < 10 {
+        b'0' + digit
+    } else {
+        b'a' + (digit - 10)
+    }
+}
+
+// Stores a byte in hex, the high digit first.
+fn put_pair(byte: u8, out: &mut [u8], at: usize) -> usize
+    ensures { λ r. ⌜ Put (now (out .entry)) at (hexBy 2 byte) (now (out .exit)) r ⌝ }
+{
+    let high = last_hex_digit(byte as u64 / 16);
+    let low = last_hex_digit(byte as u64);
+    let next = put_byte(high, out, at);
+    put_byte(low, out, next)
+}
+
+// Stores bytes in hex, two digits to each, or a dash where there is none.
+pub fn put_bytes(bytes: &[u8], out: &mut [u8], at: usize) -> usize
+    ensures { λ r. ⌜ Put (now (out .entry)) at (hexed (now (bytes .entry))) (now (out .exit)) r ⌝ }
+{
+    if bytes.len() == 0 {
+        return put_byte(b'-', out, at);
+    }
+    let mut next = at;
+    for i in 0..bytes.len() {
+        next = put_pair(bytes[i], out, next);
+    }
+    next
 }

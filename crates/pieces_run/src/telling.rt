@@ -5,12 +5,14 @@ use hex::decode_by;
 use labelled::FRAME_MOST;
 use labelled::put_bad;
 use labelled::put_byte;
-use labelled::put_decimal;
+use labelled::put_bytes;
+use labelled::put_column;
 use line_cutter::LINE_MOST;
 use line_cutter::find;
 use octets::Outcome;
 use octets::behind;
 use octets::copy;
+use octets::least;
 use octets::u8_at;
 use pieces::HEADER_MOST;
 use pieces::HeaderReader;
@@ -112,33 +114,12 @@ fn take_pieces(line: &[u8], from: usize, values: &[u16; 256]) -> Calls {
     }
 }
 
-// Stores a tab and a number in decimal.
-fn put_column(n: usize, out: &mut [u8], at: usize) -> usize {
-    let next = put_byte(b'\t', out, at);
-    put_decimal(n, out, next)
-}
-
-// Stores a byte in hex.
-fn put_hex(byte: u8, out: &mut [u8], at: usize) -> usize {
-    let digits = *b"0123456789abcdef";
-    let next = put_byte(digits[(byte / 16) as usize], out, at);
-    put_byte(digits[(byte % 16) as usize], out, next)
-}
-
 // Stores a tab and what was written again in hex, or a dash where there is nothing.
 fn put_written(calls: Calls, out: &mut [u8], at: usize) -> usize {
     let bytes = calls.bytes;
-    let mut next = put_byte(b'\t', out, at);
-    if calls.written == 0 {
-        return put_byte(b'-', out, next);
-    }
-    for i in 0..HEADER_MOST {
-        if i == calls.written {
-            break;
-        }
-        next = put_hex(bytes[i], out, next);
-    }
-    next
+    let n = least(calls.written, HEADER_MOST);
+    let next = put_byte(b'\t', out, at);
+    put_bytes(&bytes[..n], out, next)
 }
 
 // Stores the columns behind the label, and a line feed.

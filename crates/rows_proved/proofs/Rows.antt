@@ -11,8 +11,9 @@ use Rattle.address.specs.Layout.{addressIn, addressBytes}
 use Rattle.security_control.specs.Control.{keyModeOf}
 use Rattle.key_identifier.specs.Key.{keyIn, keyBytes}
 use Rattle.security.specs.Security.{securityIn, securityBytes}
+use Rattle.header_parts.specs.Parts.{writeParts}
 use Rattle.header.specs.Read.{readBy}
-use Rattle.header.specs.Write.{writeHeader, headerBytes}
+use Rattle.header.specs.Write.{headerBytes}
 use Rattle.seven_places.specs.Seven.{seven, some}
 use Rattle.superframe.specs.Superframe.{superframeIn, readSuperframe, superframeBytes, superframeTooLarge}
 use Rattle.time_slots.specs.Descriptor.{descriptorIn, descriptorBytes, descriptorTooLarge}
@@ -24,7 +25,7 @@ use Rattle.rows_proved.specs.Rows.{Asked, Seen, seen, rows}
 
 pub as-listed : map (λ (row : Asked × Seen). seen (row .0)) rows ≡ map (λ (row : Asked × Seen). row .1) rows
 unfolding join split number typeOf versionOf modeOf controlBits addressIn addressBytes keyModeOf keyIn keyBytes securityIn
-    securityBytes readBy writeHeader headerBytes readBeacon beaconIn beaconLengthIn
+    securityBytes readBy writeParts headerBytes readBeacon beaconIn beaconLengthIn
     beaconBytes beaconTooLarge writeBeacon readSuperframe superframeIn superframeBytes superframeTooLarge readTimeSlots timeSlotsIn
     timeSlotsBytes timeSlotsTooLarge writeTimeSlots listBytes directionsOf slotAt descriptorIn descriptorBytes descriptorTooLarge
     readPending pendingIn pendingBytes pendingTooLarge seven some flatMap

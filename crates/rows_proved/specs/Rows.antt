@@ -16,10 +16,11 @@ use Rattle.security_control.specs.Control.{securityControlOf}
 use Rattle.security_control.specs.declared.KeyIdentifierMode.the-variants.{KeyIndex}
 use Rattle.security.specs.declared.{OptionalSecurityHeader.OptionalSecurityHeader}
 use Rattle.security.specs.{Optional.isPresent, Security.securityOf}
+use Rattle.header_parts.specs.Parts.{writtenOutcome}
 use Rattle.header.specs.declared.{Header.Header, HeaderRead.HeaderRead}
 use Rattle.header.specs.Record.{headerOf, octetSize}
 use Rattle.header.specs.Read.{readHeader, readNumber}
-use Rattle.header.specs.Write.{writeHeader, writtenOutcome}
+use Rattle.header.specs.Write.{writeHeader}
 use Rattle.header.specs.declared.HeaderRead.the-variants.{Read, Refused}
 use Rattle.header_facts.specs.Rewritten.{ownCounter, rewritten}
 use Rattle.superframe.specs.declared.{SuperframeSpecification.SuperframeSpecification}
@@ -45,11 +46,11 @@ pub data Written : Type 0 where
   written : ℕ → List ℕ → Written
   refused : ℕ → Written
 
--- what is to be seen of an answer: a refusal's number; or the record, its length, of a header also the Rust crate's
--- number, and what writing it again gives, into a buffer of its length
+-- what is to be seen of an answer: a refusal's number; or the record, its length, of a header also the length that the
+-- record keeps and the Rust crate's number, and what writing it again gives, into a buffer of its length
 pub data Seen : Type 0 where
   refusal : ℕ → Seen
-  header : record { read : Header; length : ℕ; «get_octet_size» : ℕ; again : Written } → Seen
+  header : record { read : Header; length : ℕ; kept : ℕ; «get_octet_size» : ℕ; again : Written } → Seen
   beacon : record { read : Beacon; length : ℕ; again : Written } → Seen
   slots : record { read : GuaranteedTimeSlotInformation; length : ℕ; again : Written } → Seen
 
@@ -69,7 +70,7 @@ slotsAgain x n = writtenAs (valueOutcome (writeTimeSlots x (replicate n 0) 0)) (
 abbrev pub headerSeen : HeaderRead → Seen
 headerSeen (Refused r) = refusal (readNumber r)
 headerSeen (Read h n) =
-    header (record { read = h; length = n; «get_octet_size» = octetSize h; again = headerAgain h n })
+    header (record { read = h; length = n; kept = h .length; «get_octet_size» = octetSize h; again = headerAgain h n })
 
 -- of an answer with its outcome beside it
 abbrev outcomeSeen : Outcome → (ℕ → Seen) → Seen
@@ -169,6 +170,7 @@ rows =
       header (record {
         read = headerWith BeaconFrame uncompressed unflagged 5 nobody nobody unsecured;
         length = 3;
+        kept = 3;
         «get_octet_size» = 3;
         again = written 3 (0x00 ∷ 0x00 ∷ 0x05 ∷ []);
       }),
@@ -187,6 +189,7 @@ rows =
       header (record {
         read = headerWith DataFrame compressed unflagged 7 (device 0x1234 1) (device 0x1234 2) unsecured;
         length = 9;
+        kept = 9;
         «get_octet_size» = 11;  -- blind to compression
         again = written 9 p7;
       }),
@@ -199,6 +202,7 @@ rows =
       header (record {
         read = headerWith DataFrame compressed unflagged 7 (device 0x1234 1) nobody unsecured;
         length = 7;
+        kept = 7;
         «get_octet_size» = 7;
         again = refused 6;
       }),
@@ -209,6 +213,7 @@ rows =
       header (record {
         read = headerWith DataFrame compressed flagged 7 (device 0x1234 1) (device 0x1234 2) unsecured;
         length = 9;
+        kept = 9;
         «get_octet_size» = 11;
         again = written 9 p7;
       }),
@@ -219,6 +224,7 @@ rows =
       header (record {
         read = headerWith DataFrame uncompressed unflagged 1 nobody nobody levelFive;
         length = 9;
+        kept = 9;
         «get_octet_size» = 3;
         again = written 9 (0x09 ∷ 0x00 ∷ 0x01 ∷ 0x0D ∷ 0x01 ∷ 0x00 ∷ 0x00 ∷ 0x00 ∷ 0x07 ∷ []);
       }),

@@ -1,5 +1,5 @@
 -- What may be absent: a header's security part, and the counter that a writer is handed.
-use Rattle.octets.specs.Words.{ℕ, Bool, true, false, cond, List, []}
+use Rattle.octets.specs.Words.{ℕ, Bool, true, false, cond, _&&_, List, []}
 use Rattle.security_control.specs.Control.{levelTooLarge}
 use Rattle.security.specs.declared.{OptionalCounter.OptionalCounter}
 use Rattle.security.specs.declared.{OptionalSecurityHeader.OptionalSecurityHeader}
@@ -31,6 +31,10 @@ optionalBytes (Present k) counter = securityBytes k counter
 abbrev pub missing : OptionalCounter → Bool
 missing OptionalCounter.Absent = true
 missing (OptionalCounter.Present n) = false
+
+-- refusal 7: a security part and no counter
+abbrev pub optionalLacks : OptionalSecurityHeader → OptionalCounter → Bool
+optionalLacks part counter = isPresent part && missing counter
 
 -- the counter that is written; with none, nothing is
 abbrev pub counterOf : OptionalCounter → ℕ

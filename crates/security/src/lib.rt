@@ -6,7 +6,7 @@ ghost use Rattle.octets.specs.Buffer.{laid, after};
 ghost use Rattle.security.specs.Security.{securityOf, securityIn, securityLength, securityControlWritten};
 ghost use Rattle.security.specs.Security.{securityBytes};
 ghost use Rattle.security.specs.Optional.{isPresent, optionalIn, optionalTooLarge, optionalLength, optionalBytes};
-ghost use Rattle.security.specs.Optional.{missing, counterOf, counterRead};
+ghost use Rattle.security.specs.Optional.{missing, optionalLacks, counterOf, counterRead};
 ghost use Rattle.security.specs.Answer.{readSecurity, securityReadOutcome, writeSecurity};
 ghost use Rattle.security.specs.Answer.{securityWrittenOutcome};
 use key_identifier::OptionalKeyIdentifier;
@@ -91,6 +91,16 @@ impl OptionalSecurityHeader {
         match self {
             OptionalSecurityHeader::Absent => at,
             OptionalSecurityHeader::Present(security) => security.put(out, at, counter),
+        }
+    }
+
+    // It is present, and a writer is handed no counter for it.
+    pub fn lacks_counter(self, counter: OptionalCounter) -> bool
+        ensures { λ r. ⌜ r ≡ optionalLacks self counter ⌝ }
+    {
+        match self {
+            OptionalSecurityHeader::Absent => false,
+            OptionalSecurityHeader::Present(_) => counter.is_missing(),
         }
     }
 

@@ -5,7 +5,7 @@ use native.Mathlib.Omega.{arith}
 use mathlib.Core.List.{[], _∷_, _++_}
 use mathlib.Core.Path.{_≡_, ap, _∙_}
 use lib.Pow.{shr-shr}
-use Rattle.trace.specs.Output.{hexDigit, hexBy}
+use Rattle.labelled.specs.Hexed.{hexDigit, hexBy}
 
 module _ (v digits : ℕ) where
   -- no digit yet

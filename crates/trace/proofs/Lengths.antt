@@ -8,10 +8,11 @@ use lib.Dec.{eqb}
 use lib.ListN.{length, length-append}
 use Rattle.octets.proofs.Cases.{cases, holds?}
 use Rattle.senders.specs.declared.Counted.{Counted}
+use Rattle.labelled.specs.Hexed.{hexBy}
 use Rattle.labelled.proofs.Decimal.{decimal-few}
 use Rattle.trace.specs.Plain.{Trace, linesMost}
 use Rattle.trace.specs.Within.{Small, AllSmall, Within}
-use Rattle.trace.specs.Output.{message, hexBy, senderLine, otherLines, summary}
+use Rattle.trace.specs.Output.{message, senderLine, otherLines, summary}
 
 -- `line`, seven digits and two at most
 pub message-most : (n answer : ℕ) → n ≤ linesMost → answer < 100 → length (message n answer) ≤ 16

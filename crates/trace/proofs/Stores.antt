@@ -9,9 +9,10 @@ use borrow.Author.Tests.{ltb-true, ltb-false}
 use lib.Dec.{ltb}
 use Rattle.octets.proofs.Cases.{cases, holds?}
 use Rattle.octets.proofs.Lists.{flat-append}
+use Rattle.labelled.specs.{Decimal.column, Hexed.hexBy}
 use Rattle.senders.specs.declared.Counted.{Counted}
 use Rattle.senders.specs.Table.{countedAt, countedIn}
-use Rattle.trace.specs.Output.{column, hexBy, senderLine}
+use Rattle.trace.specs.Output.{senderLine}
 use Rattle.trace.specs.Within.{Small, AllSmall}
 
 -- the parts of a sender's line

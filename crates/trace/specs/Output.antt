@@ -1,16 +1,12 @@
 -- What is written for a trace, tab-parted lines: each line answered 10 or 11 as it is met, then each sender with its
 -- counts, then the other counts.
-use Rattle.octets.specs.Words.{ℕ, zero, suc, _+_, _*_, _/_, _%_, cond, List, [], _∷_, _++_, flatMap, ltb, eqb}
+use Rattle.octets.specs.Words.{ℕ, _+_, _*_, cond, List, [], _∷_, _++_, flatMap, eqb}
 use Rattle.line_cutter.specs.{Line.tabByte, Line.lineFeed}
-use Rattle.labelled.specs.Decimal.{decimal}
+use Rattle.labelled.specs.{Decimal.column, Hexed.hexBy}
 use Rattle.senders.specs.{declared.Sender.Sender, declared.Counted.Counted, Sender.among}
 use Rattle.trace_line.specs.{declared.Saying.Saying}
 use Rattle.trace_line.specs.declared.Saying.the-variants.{Unread, Refused, Sourceless, Heard}
 use Rattle.trace.specs.Plain.{Trace, sayings, heardIn, known, traced}
-
--- a tab and a number in decimal
-abbrev pub column : ℕ → List ℕ
-column n = tabByte ∷ decimal n
 
 -- `line`, its number counted from 1, and its answer; nothing for the answer 0
 unfoldable pub message : ℕ → ℕ → List ℕ
@@ -27,15 +23,6 @@ answerOf ks (Heard who number) = cond (among who ks) 0 11
 unfoldable pub messages : ℕ → List Sender → List Saying → List ℕ
 messages n ks [] = []
 messages n ks (s ∷ ss) = message (n + 1) (answerOf ks s) ++ messages (n + 1) ks ss
-
--- the digit of a number below 16, in lower case
-abbrev pub hexDigit : ℕ → ℕ
-hexDigit n = cond (ltb n 10) (48 + n) (87 + n)
-
--- so many low digits of a number in hex, the highest first
-unfoldable pub hexBy : ℕ → ℕ → List ℕ
-hexBy zero n = []
-hexBy (suc k) n = hexBy k (n / 16) ++ (hexDigit (n % 16) ∷ [])
 
 -- `sender`, PAN id, address, frames, repeats, missing
 unfoldable pub senderLine : Counted → List ℕ

@@ -1,35 +1,30 @@
 // What is written of a trace: a line that is answered 10 or 11, and the counts in the end. A store takes as much as has
 // room and returns the place behind it.
-ghost use Rattle.octets.specs.Words.{_<_, _≤_, _*_, [], _∷_, _++_, flatMap, _≡_, length};
+ghost use Rattle.octets.specs.Words.{_≤_, _*_, [], _∷_, _++_, flatMap, _≡_, length};
 ghost use Rattle.line_cutter.specs.Line.{tabByte};
+ghost use Rattle.labelled.specs.Decimal.{column};
+ghost use Rattle.labelled.specs.Hexed.{hexBy};
 ghost use Rattle.labelled.specs.Put.{Put};
 ghost use Rattle.senders.specs.Hearing.{sendersMost};
 ghost use Rattle.senders.specs.Table.{tableLength, countedIn};
-ghost use Rattle.trace.specs.Output.{column, message, hexDigit, hexBy, senderLine, otherLines, summary};
+ghost use Rattle.trace.specs.Output.{message, senderLine, otherLines, summary};
 ghost use Rattle.trace.specs.State.{traceOf};
 ghost use Rattle.trace.specs.Within.{AllSmall};
 use crate::counting::Counts;
+use labelled::last_hex_digit;
 use labelled::put_byte;
-use labelled::put_decimal;
+use labelled::put_column;
 use octets::copy;
 use senders::Counted;
 use senders::Sender;
 use senders::row_at;
-
-// Stores a tab and a number in decimal.
-fn put_column(n: u64, out: &mut [u8], at: usize) -> usize
-    ensures { λ r. ⌜ Put (now (out .entry)) at (column n) (now (out .exit)) r ⌝ }
-{
-    let next = put_byte(b'\t', out, at);
-    put_decimal(n as usize, out, next)
-}
 
 // Stores a word and a column behind it.
 fn put_count(word: &[u8], n: u64, out: &mut [u8], at: usize) -> usize
     ensures { λ r. ⌜ Put (now (out .entry)) at (now (word .entry) ++ column n) (now (out .exit)) r ⌝ }
 {
     let next = copy(word, out, at);
-    put_column(n, out, next)
+    put_column(n as usize, out, next)
 }
 
 // Stores the answer to a line, its number counted from 1; nothing for the answer 0.
@@ -40,16 +35,8 @@ pub(crate) fn put_message(line: u64, answer: u64, out: &mut [u8], at: usize) -> 
         return at;
     }
     let next = put_count(b"line", line, out, at);
-    let next = put_column(answer, out, next);
+    let next = put_column(answer as usize, out, next);
     put_byte(b'\n', out, next)
-}
-
-// The digit of a number below 16, in lower case.
-fn hex_digit(n: u8) -> u8
-    requires { ⌜ n < 16 ⌝ }
-    ensures { λ r. ⌜ r ≡ hexDigit n ⌝ }
-{
-    if n < 10 { b'0' + n } else { b'a' + (n - 10) }
 }
 
 // Stores so many low digits of a number in hex, the highest first. A number of 64 bits has sixteen.
@@ -61,7 +48,7 @@ fn put_hex(v: u64, digits: usize, out: &mut [u8], at: usize) -> usize
     let mut i = digits;
     while i > 0 {
         i -= 1;
-        let digit = hex_digit(((v >> (4 * i)) % 16) as u8);
+        let digit = last_hex_digit(v >> (4 * i));
         next = put_byte(digit, out, next);
     }
     next
@@ -83,9 +70,9 @@ fn put_counts(c: Counted, out: &mut [u8], at: usize) -> usize
     ensures { λ r. ⌜ Put (now (out .entry)) at
         (column (c .frames) ++ (column (c .repeats) ++ column (c .missing))) (now (out .exit)) r ⌝ }
 {
-    let next = put_column(c.frames, out, at);
-    let next = put_column(c.repeats, out, next);
-    put_column(c.missing, out, next)
+    let next = put_column(c.frames as usize, out, at);
+    let next = put_column(c.repeats as usize, out, next);
+    put_column(c.missing as usize, out, next)
 }
 
 // Stores the line of a sender.
@@ -126,7 +113,7 @@ fn put_others(counts: Counts, out: &mut [u8], at: usize) -> usize
     let next = put_count(b"refused", counts.refused, out, at);
     let next = put_count(b"\nsourceless", counts.sourceless, out, next);
     let next = put_count(b"\nunread", counts.unread, out, next);
-    let next = put_column(counts.crowded, out, next);
+    let next = put_column(counts.crowded as usize, out, next);
     put_byte(b'\n', out, next)
 }
 

@@ -1,7 +1,7 @@
 //! Equal, listed or unlisted: what documents 01 and 02 say of a difference.
 
-use oracle_format::asks_with_nothing_behind;
 use oracle_format::text::{bytes_of_hex, hex};
+use oracle_format::{asks_with_nothing_behind, blot_kept_length, kept_length_place};
 use std::collections::BTreeMap;
 
 #[derive(PartialEq)]
@@ -13,8 +13,9 @@ pub enum Verdict {
 #[derive(Clone)]
 struct Example {
     command: Vec<u8>,
-    left: Vec<u8>,
-    right: Vec<u8>,
+    rust: Vec<u8>,
+    model: Vec<u8>,
+    program: Option<Vec<u8>>,
 }
 
 impl Example {
@@ -49,6 +50,7 @@ pub struct Table {
     commands: u64,
     equal: u64,
     not_had: u64,
+    kept_lengths: u64,
     listed: BTreeMap<String, Class>,
     unlisted: BTreeMap<String, Class>,
 }
@@ -104,6 +106,20 @@ pub fn nothing_behind(command: &[u8]) -> bool {
     command[0] == b'g' && bytes_of_hex(&command[2..]).map_or(false, |bytes| asks_with_nothing_behind(&bytes))
 }
 
+/// An answer with 0 in place of a read header's kept length, as the Rust has it, which keeps none.
+pub fn without_kept_length(command: &[u8], answer: &[u8]) -> Vec<u8> {
+    let mut answer = answer.to_vec();
+    blot_kept_length(command[0], &mut answer);
+    answer
+}
+
+/// Whether the length that a read header keeps is the length that reading told; none where no header was read.
+pub fn keeps_told_length(command: &[u8], answer: &[u8]) -> Option<bool> {
+    let kept = kept_length_place(command[0], answer)?;
+    let told = std::str::from_utf8(fields(answer)[1]).ok().and_then(|told| told.parse::<u8>().ok());
+    Some(bytes_of_hex(&answer[kept]).map_or(false, |kept| Some(kept[0]) == told))
+}
+
 /// What was answered to a command, raw but for the last.
 pub struct Answers<'a> {
     pub command: &'a [u8],
@@ -119,12 +135,20 @@ impl Table {
         self.equal += count;
     }
 
-    /// The Rust's answer against the model's.
+    /// So many of those equal have a kept length.
+    pub fn kept_lengths(&mut self, count: u64) {
+        self.kept_lengths += count;
+    }
+
+    /// The Rust's answer against the model's, whose kept length of a read header is held beside the length that both tell.
     pub fn pair(&mut self, answers: &Answers) {
         let Answers { command, rust, model, rust_with_more } = *answers;
         self.commands += 1;
-        let example = || Some(Example { command: command.to_vec(), left: rust.to_vec(), right: model.to_vec() });
-        if !kept(command, model) || model == b"panic" || model == b"bad" {
+        let example = || Some(Example { command: command.to_vec(), rust: rust.to_vec(), model: model.to_vec(), program: None });
+        let keeps = keeps_told_length(command, model);
+        self.kept_lengths += keeps.is_some() as u64;
+        let model = &without_kept_length(command, model)[..];
+        if !kept(command, model) || keeps == Some(false) || model == b"panic" || model == b"bad" {
             self.unlisted.entry(format!("model alone, kind {}", command[0] as char)).or_default().add(1, example());
         } else if let Some(more) = rust_with_more {
             let as_listed = rust == b"1\t0" && more == folded(command, model);
@@ -150,23 +174,26 @@ impl Table {
         }
     }
 
-    /// The program's answer against the Rust's, and against the model's where the Rust could not be asked or the record is not free of 8.
+    /// The program's answer against the Rust's, but for a read header's kept length, as far as the Rust could be asked and the record is free of 8;
+    /// and all of it against the model's.
     pub fn program(&mut self, answers: &Answers, program: &[u8]) {
         let Answers { command, rust, model, rust_with_more } = *answers;
-        let by_rust = match (rust_with_more, equal_as_asked(rust, program)) {
-            (Some(more), _) => more == program,
+        let asked = without_kept_length(command, program);
+        let by_rust = match (rust_with_more, equal_as_asked(rust, &asked)) {
+            (Some(more), _) => more == asked,
             (None, Some(equal)) => equal,
-            (None, None) => written_number(command, model) == Some(b"8") || folded(command, rust) == program,
+            (None, None) => written_number(command, model) == Some(b"8") || folded(command, rust) == asked,
         };
         if !by_rust || folded(command, model) != program {
-            let example = Example { command: command.to_vec(), left: rust.to_vec(), right: program.to_vec() };
+            let (rust, model, program) = (rust.to_vec(), model.to_vec(), Some(program.to_vec()));
+            let example = Example { command: command.to_vec(), rust, model, program };
             self.unlisted.entry(format!("{PROGRAM}, kind {}", command[0] as char)).or_default().add(1, Some(example));
         }
     }
 
     /// A digest differs and none of its commands does.
     pub fn digest_alone(&mut self, command: &[u8]) {
-        let example = Example { command: command.to_vec(), left: Vec::new(), right: Vec::new() };
+        let example = Example { command: command.to_vec(), rust: Vec::new(), model: Vec::new(), program: None };
         self.unlisted.entry("digest alone".to_string()).or_default().add(1, Some(example));
     }
 
@@ -192,6 +219,7 @@ impl Table {
         self.commands += other.commands;
         self.equal += other.equal;
         self.not_had += other.not_had;
+        self.kept_lengths += other.kept_lengths;
         for (mine, theirs) in [(&mut self.listed, other.listed), (&mut self.unlisted, other.unlisted)] {
             for (name, class) in theirs {
                 mine.entry(name).or_default().add(class.count, class.smallest);
@@ -217,16 +245,21 @@ impl Table {
         );
     }
 
-    /// Prints the classes with the smallest command of each.
-    pub fn tell(&self) -> Verdict {
+    /// Prints how many kept lengths were compared, and the classes with the smallest command of each.
+    pub fn tell(&self, with_program: bool) -> Verdict {
+        let program = if with_program { ", the program's beside the model's" } else { "" };
+        println!("kept lengths of {} read headers: the model's beside the Rust's lengths{program}", self.kept_lengths);
         for (title, classes) in [("listed", &self.listed), ("UNLISTED", &self.unlisted)] {
             for (name, class) in classes {
                 println!("{title}: {name}: {}", class.count);
                 if let Some(example) = &class.smallest {
                     let text = |bytes: &[u8]| String::from_utf8_lossy(bytes).replace('\t', " ");
                     println!("    command {}", text(&example.command));
-                    println!("    Rust    {}", text(&example.left));
-                    println!("    here    {}", text(&example.right));
+                    println!("    Rust    {}", text(&example.rust));
+                    println!("    model   {}", text(&example.model));
+                    if let Some(program) = &example.program {
+                        println!("    program {}", text(program));
+                    }
                 }
             }
         }

@@ -4,7 +4,7 @@ mod compare;
 mod sides;
 mod suites;
 
-use compare::{nothing_behind, Answers, Table, Verdict};
+use compare::{keeps_told_length, nothing_behind, without_kept_length, Answers, Table, Verdict};
 use oracle_format::generator::{Run, FAMILIES};
 use oracle_format::text::{bytes_of_hex, fnv, hex, FNV_START};
 use sides::Program;
@@ -66,7 +66,7 @@ fn commands(name: &str) {
 
 /// From each suite whose answers the Rust has, as many commands as its share of a count, in even steps; the smaller suites get more than their share.
 fn sample(count: usize) {
-    let suites: Vec<_> = SUITES.iter().filter(|suite| !["eight", "unused"].contains(&suite.name)).collect();
+    let suites: Vec<_> = SUITES.iter().filter(|suite| !["eight", "unused", "kept"].contains(&suite.name)).collect();
     let share = count / suites.len();
     let mut text = Vec::new();
     for suite in suites {
@@ -103,9 +103,10 @@ fn single(bytes: &[u8]) -> Vec<Vec<u8>> {
     lines
 }
 
-/// The digest of dump lines, as a dump line.
-fn digest(lines: &[Vec<u8>]) -> Vec<u8> {
-    let value = lines.iter().fold(FNV_START, |value, line| fnv(fnv(value, line), b"\n"));
+/// The digest of the dump lines that were answered to commands, as a dump line.
+fn digest(commands: &[Vec<u8>], answers: &[Vec<u8>]) -> Vec<u8> {
+    let lines = commands.iter().zip(answers).map(|(command, answer)| without_kept_length(command, answer));
+    let value = lines.fold(FNV_START, |value, line| fnv(fnv(value, &line), b"\n"));
     let mut text = Vec::new();
     hex(&value.to_be_bytes(), &mut text);
     text
@@ -146,26 +147,46 @@ impl Sides {
         }
     }
 
-    /// Whether the programs give one digest for each thousand; a program of ours is given the single commands.
-    fn digests_agree(&mut self, thousands: &[Vec<u8>]) -> Vec<bool> {
+    /// For each thousand how many kept lengths agree, if the programs give one digest and all kept lengths do; a program of ours is given the
+    /// single commands.
+    fn digests_agree(&mut self, thousands: &[Vec<u8>]) -> Vec<Option<u64>> {
         let lines: Vec<_> = thousands.iter().map(|bytes| line(b'd', bytes)).collect();
         let rust = self.rust_folded.ask(&lines);
         let model = self.model_folded.ask(&lines);
-        let program = self.program.as_mut();
-        let ours = program.map(|program| thousands.iter().map(|bytes| digest(&program.ask(&single(bytes)))).collect::<Vec<_>>());
         (0..lines.len())
-            .map(|index| rust[index] == model[index] && ours.as_ref().map_or(true, |ours| ours[index] == rust[index]))
+            .map(|index| {
+                let commands = single(&thousands[index]);
+                let ours = self.program.as_mut().map(|program| program.ask(&commands));
+                let given = ours.as_ref().map_or(true, |ours| digest(&commands, ours) == rust[index]);
+                if rust[index] == model[index] && given {
+                    self.kept_lengths_agree(&commands, ours)
+                } else {
+                    None
+                }
+            })
             .collect()
     }
 
-    /// A smaller command with a difference of the same sort, as long as one is found.
+    /// How many headers are read by these commands, if the model keeps the length of each and the program's answers are the model's: a digest
+    /// holds no kept length.
+    fn kept_lengths_agree(&mut self, commands: &[Vec<u8>], ours: Option<Vec<Vec<u8>>>) -> Option<u64> {
+        if commands.iter().all(|command| command[0] != b'h') {
+            return Some(0);
+        }
+        let model = self.model_folded.ask(commands);
+        let kept = commands.iter().zip(&model).filter_map(|(command, answer)| keeps_told_length(command, answer));
+        let (right, wrong): (Vec<bool>, Vec<bool>) = kept.partition(|right| *right);
+        (wrong.is_empty() && ours.map_or(true, |ours| ours == model)).then(|| right.len() as u64)
+    }
+
+    /// A smaller command with a difference of the same sort, as long as one is found. The model knows what a command is.
     fn shrink(&mut self, start: &[u8], by_program: bool) -> Vec<u8> {
         let mut best = start.to_vec();
         'smaller: loop {
             for candidate in compare::smaller(&best) {
                 let mut table = Table::default();
                 self.compare(&[candidate.clone()], &mut table);
-                if table.has_unlisted(by_program) {
+                if table.has_unlisted(by_program) && self.model.ask(&[candidate.clone()]) != [b"bad"] {
                     best = candidate;
                     continue 'smaller;
                 }
@@ -204,9 +225,10 @@ fn run(rust: &str, model: &str, thousands: u64, program: Option<&str>) {
         let numbers: Vec<u64> = (0..thousands).collect();
         for batch in numbers.chunks(64) {
             let thousands: Vec<_> = batch.iter().map(|number| thousand(family, *number)).collect();
-            for (agree, number) in sides.digests_agree(&thousands).into_iter().zip(batch) {
+            for (agreed, number) in sides.digests_agree(&thousands).into_iter().zip(batch) {
                 let single = single(&thousand(family, *number));
-                if agree {
+                if let Some(kept_lengths) = agreed {
+                    table.kept_lengths(kept_lengths);
                     // A GTS field with nothing behind it has a digest only with a byte there: it is looked at by itself.
                     let alone: Vec<_> = single.into_iter().filter(|line| nothing_behind(line)).collect();
                     table.equal(1000 - alone.len() as u64);
@@ -232,6 +254,6 @@ fn run(rust: &str, model: &str, thousands: u64, program: Option<&str>) {
             whole.add_smallest(shown);
         }
     }
-    let verdict = whole.tell();
+    let verdict = whole.tell(program.is_some());
     std::process::exit(if verdict == Verdict::Agree { 0 } else { 1 });
 }

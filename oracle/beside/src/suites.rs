@@ -31,6 +31,7 @@ pub const SUITES: &[Suite] = &[
     Suite { name: "parts", what: "records of the parts, every room", make: part_records },
     Suite { name: "eight", what: "records that are refused with 8", make: eight },
     Suite { name: "unused", what: "records with anything past their counts", make: unused },
+    Suite { name: "kept", what: "header records with every kept length, and every refusal", make: kept_lengths },
 ];
 
 /// How the writing is asked for.
@@ -360,7 +361,7 @@ fn header_record(start: [u8; 8], destination: &[u8], source: &[u8], security: &O
             spelled.extend_from_slice(security);
         }
     }
-    // The kept length.
+    // The kept length: the right one.
     spelled.push(0);
     spelled
 }
@@ -620,6 +621,34 @@ fn unused(take: &mut Take) {
                 command(take, b'G', 0, room(space), &slots);
                 command(take, b'Q', 0, room(space), &pending);
                 command(take, b'B', 0, room(space), &beacon_record(&first, &slots, &pending));
+            }
+        }
+    }
+}
+
+/// Header records with a kept length that is given. All of them: at a room of two bytes, which is refusal 1, and at one that is enough, with a
+/// counter and without, which is 7 where they are secured; among them are level 8, and compression without an address, which is 6. The right
+/// one and those beside it: at every room.
+fn kept_lengths(take: &mut Take) {
+    let part = |level, mode, key: u8| (Some(security_record(level, mode, key)), SECURED[key as usize]);
+    let securities = [(None, 0), part(5, 0, 0), part(5, 1, 1), part(5, 3, 2), part(5, 3, 3), part(8, 1, 1)];
+    for (to, from, compress, start) in FORMS {
+        for (security, secured) in &securities {
+            let start_of_record = [1, 0, 1, compress, 0, 0, 1, 7];
+            let mut record = header_record(start_of_record, &address(to, 0x1234), &address(from, 0x1234), security);
+            let right = start + secured;
+            for kept in 1..=255 {
+                record[layout::header::KEPT] = kept as u8;
+                take(b'z', &record);
+                for choice in 0..2 {
+                    command(take, b'H', 0, Into { choice, ..room(2) }, &record);
+                    command(take, b'H', 0, Into { choice, ..room(37) }, &record);
+                    if right.abs_diff(kept) <= 1 {
+                        for space in 0..=39 {
+                            command(take, b'H', 0, Into { choice, ..room(space) }, &record);
+                        }
+                    }
+                }
             }
         }
     }

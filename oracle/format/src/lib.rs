@@ -4,6 +4,7 @@ pub mod generator;
 pub mod text;
 
 use std::io::{BufRead, BufReader, Write};
+use std::ops::Range;
 use std::panic::{catch_unwind, AssertUnwindSafe};
 use text::{bytes_of_hex, decimal, fnv, hex, FNV_START};
 
@@ -223,12 +224,14 @@ fn put_build<P: Part>(kind: u8, bytes: &[u8], form: Form, out: &mut Vec<u8>) -> 
     true
 }
 
-/// The size of the header that is dumped.
+/// The size of the header that is dumped. Its kept length is not looked at.
 fn put_header_size<S: Side>(spelled: &[u8], out: &mut Vec<u8>) -> bool {
     if !layout::well_formed(b'H', spelled) {
         return false;
     }
-    match S::Header::build(spelled) {
+    let mut right = spelled.to_vec();
+    right[layout::header::KEPT] = 0;
+    match S::Header::build(&right) {
         Some(header) => decimal(S::header_size(&header), out),
         None => out.push(b'?'),
     }
@@ -245,6 +248,24 @@ fn put_bits(answer: Result<u8, Number>, form: Form, out: &mut Vec<u8>) {
     }
 }
 
+/// Where an answer has the two digits of a kept length: at the end of the record of a header that was read.
+pub fn kept_length_place(kind: u8, answer: &[u8]) -> Option<Range<usize>> {
+    let mut fields = answer.split(|byte| *byte == b'\t');
+    let (number, length, record) = (fields.next()?, fields.next()?, fields.next()?);
+    if kind != b'h' || record.len() != 2 * layout::HEADER {
+        return None;
+    }
+    let end = number.len() + 1 + length.len() + 1 + record.len();
+    Some(end - 2..end)
+}
+
+/// Makes the kept length in an answer 0.
+pub fn blot_kept_length(kind: u8, answer: &mut [u8]) {
+    if let Some(place) = kept_length_place(kind, answer) {
+        answer[place].fill(b'0');
+    }
+}
+
 fn put_digest<S: Side>(bytes: &[u8], form: Form, out: &mut Vec<u8>) -> bool {
     let Some(mut run) = generator::Run::of_command(bytes) else { return false };
     let mut digest = FNV_START;
@@ -253,6 +274,7 @@ fn put_digest<S: Side>(bytes: &[u8], form: Form, out: &mut Vec<u8>) -> bool {
     while let Some(kind) = run.next_command(&mut made) {
         line.clear();
         answer_bytes::<S>(kind, &made, form, &mut line);
+        blot_kept_length(kind, &mut line);
         line.push(b'\n');
         digest = fnv(digest, &line);
     }

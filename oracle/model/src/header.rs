@@ -1,8 +1,8 @@
-//! Document 01, "Header layout" and "Refusal numbers".
+//! Document 01, "Header layout" and "Refusal numbers"; document 02, request 4, the kept length.
 
 use crate::bytes::{from, number, put, store, take};
 use crate::security::Security;
-use oracle_format::layout::header::{DESTINATION, SECURED, SECURITY, SOURCE};
+use oracle_format::layout::header::{DESTINATION, KEPT, SECURED, SECURITY, SOURCE};
 use oracle_format::{Number, Part};
 
 pub const TYPES: [u8; 7] = [0, 1, 2, 3, 5, 6, 7];
@@ -46,6 +46,7 @@ pub struct Header {
     pub destination: Option<Address>,
     pub source: Option<Address>,
     pub security: Option<Security>,
+    pub kept_length: usize,
 }
 
 /// An address at a place with its PAN id in front, or with the PAN id that is already known.
@@ -84,6 +85,11 @@ fn put_address(address: &Option<Address>, with_pan: bool, out: &mut Vec<u8>) {
     }
 }
 
+/// Bytes of an address in a frame, with its PAN id or without.
+fn octets(address: &Option<Address>, with_pan: bool) -> usize {
+    address.map_or(0, |address| 2 * with_pan as usize + width(address.mode))
+}
+
 fn mode_of(address: &Option<Address>) -> u64 {
     address.map_or(0, |address| address.mode as u64)
 }
@@ -91,8 +97,20 @@ fn mode_of(address: &Option<Address>) -> u64 {
 impl Header {
     /// The crate's number: 3, plus 4 or 10 for each address, blind to compression and security.
     pub fn size(&self) -> usize {
-        let octets = |address: &Option<Address>| address.map_or(0, |address| 2 + width(address.mode));
-        3 + octets(&self.destination) + octets(&self.source)
+        3 + octets(&self.destination, true) + octets(&self.source, true)
+    }
+
+    /// The parts as they would lie in a frame: frame control and sequence byte, destination, source, security part.
+    fn length(&self) -> usize {
+        2 + 1
+            + octets(&self.destination, true)
+            + octets(&self.source, !self.compress)
+            + self.security.map_or(0, |security| security.length())
+    }
+
+    /// The same record with its length kept.
+    fn with_length(self) -> Header {
+        Header { kept_length: self.length(), ..self }
     }
 
     /// Frame control with bits 7, 8 and 9 clear, and the sequence byte.
@@ -148,8 +166,9 @@ impl Part for Header {
             destination,
             source,
             security,
+            kept_length: 0,
         };
-        Ok((header, length))
+        Ok((header.with_length(), length))
     }
 
     fn spell(record: &Header, out: &mut Vec<u8>) {
@@ -170,12 +189,12 @@ impl Part for Header {
             Some(security) => Security::spell(security, out),
             None => out.extend_from_slice(&[0; 16]),
         }
-        // No length is kept.
-        out.push(0);
+        out.push(record.kept_length as u8);
     }
 
+    /// A kept length of 0 stands for the right one.
     fn build(spelled: &[u8]) -> Option<Header> {
-        Some(Header {
+        let header = Header {
             frame_type: spelled[0],
             pending: spelled[1] == 1,
             acknowledge: spelled[2] == 1,
@@ -190,12 +209,14 @@ impl Part for Header {
                 0 => None,
                 _ => Security::build(&spelled[SECURITY..]),
             },
-        })
+            kept_length: spelled[KEPT] as usize,
+        };
+        Some(if header.kept_length == 0 { header.with_length() } else { header })
     }
 
-    /// 8; 1 below three bytes of room; 6; 1 addresses; 7; 1 security part.
+    /// 8 for the kept length, then for the level; 1 below three bytes of room; 6; 1 addresses; 7; 1 security part.
     fn write(record: Header, counter: Option<u32>, buffer: &mut [u8], place: usize) -> Option<Result<usize, Number>> {
-        if record.security.map_or(false, |security| 7 < security.control.level) {
+        if record.kept_length != record.length() || record.security.map_or(false, |security| 7 < security.control.level) {
             return Some(Err(8));
         }
         let room = buffer.len().saturating_sub(place);

@@ -129,6 +129,9 @@ impl Part for HeaderPart {
     }
 
     fn build(spelled: &[u8]) -> Option<Header> {
+        if spelled[header::KEPT] != 0 {
+            return None;
+        }
         let secured = match spelled[header::SECURED] {
             0 => None,
             _ => Some(SecurityPart::build(&spelled[header::SECURITY..])?),

@@ -9,8 +9,9 @@ use Rattle.header.proofs.Header.write.Tie as tie
 
 returns : tie.Need-returns
 returns c =
-    let call = c .before .before .write-at in
-    (call .ensures .0 ∙ ap (writeHeader _ _) (sub-zero _), call .ensures .1)
+    let call = c .before .before in
+    let a = call .before .before .before .args in
+    (call .write-at .ensures .0 ∙ ap (writeHeader (a .self) (a .counter)) (sub-zero _), call .write-at .ensures .1)
 
 pub write-spec : {M : Type 1} → statement M
 write-spec = tie.close (tie.spec (λ c κs. search needs) (λ c. search needs) returns)

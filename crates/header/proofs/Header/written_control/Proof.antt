@@ -8,4 +8,4 @@ pub written-control-spec : {M : Type 1} → statement M
 written-control-spec =
     tie.close
     (tie.spec (λ c κs. search needs) (λ c κs. search needs) (λ c κs. search needs)
-    (λ c. simp (c .has-security .ensures, c .before .mode2 .ensures, c .before .before .mode .ensures)))
+    (λ c. simp (c .is-present .ensures, c .before .mode2 .ensures, c .before .before .mode .ensures)))

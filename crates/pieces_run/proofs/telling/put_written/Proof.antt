@@ -1,23 +1,22 @@
--- `pieces_run::telling::put_written` is safe and ends: the output keeps its length. The measure is the number of bytes that are left.
+-- `pieces_run::telling::put_written` is safe: no more bytes are told than there are.
 -- Assumes nothing.
-use Prim.Native.Nat.{_-_, _≤_}
-use mathlib.Core.Path.{_≡_}
+use Prim.Native.Nat.{_≤_}
+use native.Mathlib.Omega.{arith}
+use mathlib.Core.Path.{_≡_, sym}
 use borrow.Author.Needs.{needs}
 use lib.ListN.{length}
+use lib.Seq.{length-take-le}
 use Rattle.pieces_run.proofs.telling.put_written.Statement.{statement}
 use Rattle.pieces_run.proofs.telling.put_written.Tie as tie
 
-abbrev Inv-loop : tie.InvT-loop
-Inv-loop calls out₀ at bytes next₀ i₀ out next i =
-    (i ≤ 37) × (length out ≡ length out₀)
-
-abbrev μ-loop : tie.MeasureT-loop
-μ-loop calls out₀ at bytes next₀ i₀ out next i =
-    37 - i
+few : (c : tie.After-least) → c .least .result ≤ length (c .before .before .before .args .calls .bytes)
+few c =
+    let k : length (c .before .before .before .args .calls .bytes) ≡ 37 = search needs in
+    omega (arith, c .least .ensures, k)
 
 pub put-written-spec : {M : Type 1} → statement M
 put-written-spec =
     tie.close
-    (tie.spec Inv-loop μ-loop (λ c κs. search needs) (λ c κs. search needs) (λ c. search needs) (λ c. search needs)
-    (λ c. search needs) (λ c. search needs) (λ c κs. search needs) (λ c. search needs) (λ c. search needs) (λ c. search needs)
-    (λ c. search needs) (λ c. search needs) (λ c. search needs) (λ c. search needs))
+    (tie.spec (λ c κs. search needs) (λ c κs. search needs) (λ c. few (c .before .before .before .before))
+    (λ c. sym (length-take-le _ _ (few (c .before .before .before .before .before))))
+    (λ c κs. search needs) (λ c. search needs) (λ c. search needs))

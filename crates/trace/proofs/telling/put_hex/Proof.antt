@@ -6,9 +6,9 @@ use mathlib.Core.List.{[], _∷_, _++_}
 use mathlib.Core.Path.{_≡_, refl, ap, _∙_}
 use borrow.Author.Needs.{needs}
 use lib.ListN.{length}
+use Rattle.labelled.specs.Hexed.{hexBy}
 use Rattle.labelled.specs.Put.{Put}
 use Rattle.labelled.proofs.Putting.{none, join, same}
-use Rattle.trace.specs.Output.{hexBy}
 use Rattle.trace.proofs.Hexes.{hex-none, hex-more, hex-all}
 use Rattle.trace.proofs.telling.put_hex.Statement.{statement}
 use Rattle.trace.proofs.telling.put_hex.Tie as tie
@@ -34,7 +34,7 @@ loop-again c =
       omega (arith, l .inv .0),
       b .put-byte .kept .1 .0 ∙ l .inv .1,
       same
-          (ap (λ (d : ℕ). hexBy (a .digits - l .i) (a .v / 2 ^ (4 * l .i)) ++ (d ∷ [])) (h .hex-digit .ensures)
+          (ap (λ (d : ℕ). hexBy (a .digits - l .i) (a .v / 2 ^ (4 * l .i)) ++ (d ∷ [])) (h .last-hex-digit .ensures)
           ∙ hex-more (a .v) (a .digits) (l .i) (omega (arith, h .before .loop-test .taken)) (l .inv .0))
           (join (l .inv .2) (b .put-byte .ensures)),
     )
@@ -48,5 +48,5 @@ returns c =
 pub put-hex-spec : {M : Type 1} → statement M
 put-hex-spec =
     tie.close
-    (tie.spec Inv-loop μ-loop loop-holds (λ c. search needs) (λ c. search needs) (λ c. search needs) (λ c. search needs)
+    (tie.spec Inv-loop μ-loop loop-holds (λ c. search needs) (λ c. search needs) (λ c. search needs)
     (λ c κs. search needs) (λ c κs. search needs) (λ c. search needs) loop-again (λ c. c .before .loop .inv .1) returns)
