@@ -1,7 +1,7 @@
--- Writing a header, document 01: 8; 1 below three bytes of room; 6; 1 addresses; 7; 1 security part. 8 is also given
--- for a wrong kept length (document 02, request 4). The writer clears frame-control bits 7, 8 and 9, takes the key mode
--- from the key identifier and the counter from the caller.
-use Rattle.octets.specs.Words.{ℕ, Bool, not, List, _++_, eqb}
+-- Writing a header: the first refusal that holds (header_parts/specs/Parts has them in document 01's order, test by
+-- test), or its bytes. The writer clears frame-control bits 7, 8 and 9, takes the key mode from the key identifier and
+-- the counter from the caller.
+use Rattle.octets.specs.Words.{ℕ, Bool, List, _++_}
 use Rattle.octets.specs.Little.{split}
 use Rattle.frame_control.specs.{declared.FrameControl.FrameControl, Control.controlBits, Control.quietControl}
 use Rattle.address_pair.specs.Pair.{pairBytes, pairLacks}
@@ -9,11 +9,7 @@ use Rattle.security.specs.declared.{OptionalCounter.OptionalCounter}
 use Rattle.security.specs.Optional.{optionalBytes}
 use Rattle.header_parts.specs.{declared.HeaderWritten.HeaderWritten, Parts.writeParts}
 use Rattle.header.specs.declared.{Header.Header}
-use Rattle.header.specs.Record.{controlWith, headerLength}
-
--- refusal 8: the kept length is not that of the parts
-abbrev pub wrongLength : Header → Bool
-wrongLength h = not (eqb (h .length) (headerLength h))
+use Rattle.header.specs.Record.{controlWith}
 
 -- refusal 6: compression set, either address missing
 abbrev pub lacksAddress : Header → Bool

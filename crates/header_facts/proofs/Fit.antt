@@ -21,7 +21,7 @@ use Rattle.header.specs.declared.Header.{Header}
 use Rattle.header.specs.declared.HeaderRead.the-variants.{Read}
 use Rattle.header.specs.Record.{ownsSource, addressesEnd, headerLength}
 use Rattle.header.specs.Read.{readHeader}
-use Rattle.header.specs.Write.{wrongLength, lacksAddress, writeHeader}
+use Rattle.header.specs.Write.{lacksAddress, writeHeader}
 use Rattle.header.proofs.Writing.{header-length}
 use Rattle.header_facts.specs.Rewritten.{quiet, lost, ownCounter, rewritten}
 use Rattle.header_facts.specs.Told.{partTold, SmallPart, Small}
@@ -46,7 +46,7 @@ pub record Fit (h : Header) : Type 0 where
   pub sound : Sound h
 
 -- no refusal 8 for a length that is the sum of the parts
-pub length-right : (h : Header) → h .length ≡ headerLength h → wrongLength h ≡ false
+pub length-right : (h : Header) → h .length ≡ headerLength h → not (eqb (h .length) (headerLength h)) ≡ false
 length-right h e = ap not (eq-eqb (h .length) (headerLength h) e)
 
 -- no refusal 7 with the counter that was read

@@ -24,7 +24,8 @@ long start = let a = start .args in partsLength (a .compress) (a .destination) (
 abbrev from : ℕ → tie.Start → HeaderWritten
 from k start =
     let a = start .args in
-    first (drop k (writeTests (a .kept) (a .compress) (a .destination) (a .source) (a .security) (a .counter) (a .room))) (Written (long start))
+    first (drop k (writeTests (a .kept) (a .compress) (a .destination) (a .source) (a .security) (a .counter) (a .room)))
+    (Written (long start))
 
 -- where each test began
 abbrev start1 : tie.Else1 → tie.Start
