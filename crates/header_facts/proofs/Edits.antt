@@ -30,7 +30,7 @@ use Rattle.header_facts.specs.Told.{partTold, Small}
 use Rattle.header_facts.specs.Edited.{Edited, Edits, Edit, replaceDestination, replaceSource, removeSource, switchOff, switchOn}
 use Rattle.header_facts.specs.Edited.{editedBy, numberOf, editedByAll, SmallEdit, SmallEdits, AfterEdit, Bridged}
 use Rattle.header_facts.proofs.Back.{owned-back, both-shared, record-side}
-use Rattle.header_facts.proofs.Fit.{Sound, Fit, accepted, long, again}
+use Rattle.header_facts.proofs.Fit.{Sound, Fit, accepted, long, again, in-buffer}
 use Rattle.header_facts.proofs.Trip.{fit-read}
 
 -- each field of a record with compression and addresses exchanged
@@ -97,29 +97,26 @@ shares-both Absent s e = absurd (true≢false (sym e))
 shares-both (Present d) Absent e = absurd (true≢false (sym e))
 shares-both (Present d) (Present s) e = refl
 
-lacks-none : (h : Header) (edit : Edit) → numberOf edit h ≡ 0 → lacksAddress (editedBy edit h) ≡ false
-lacks-none h (replaceDestination a) zero = refl
-lacks-none h (replaceSource a) zero = refl
-lacks-none h removeSource zero = refl
-lacks-none h switchOff zero = refl
-lacks-none h switchOn zero =
+taken : (h : Header) (edit : Edit) → numberOf edit h ≡ 0 → Sound (editedBy edit h) × (lacksAddress (editedBy edit h) ≡ false)
+taken h (replaceDestination a) zero = (sound-off h (Present a) (h .source), refl)
+taken h (replaceSource a) zero = (sound-off h (h .destination) (Present a), refl)
+taken h removeSource zero = (sound-off h (h .destination) Absent, refl)
+taken h switchOff zero = (sound-off h (h .destination) (h .source), refl)
+taken h switchOn zero =
     cases (holds? (pairShares (h .destination) (h .source)))
-    (λ t. simp t (shares-both (h .destination) (h .source) t))
+    (λ t. simp t (sound-on h (h .destination) (h .source) t, shares-both (h .destination) (h .source) t))
     (λ f. absurd (omega (arith, simp f at zero)))
 
 -- an edit is accepted, or 12 is given and the record stays
-answer : (h : Header) (edit : Edit) → Sound (editedBy edit h) ⊎ ((numberOf edit h ≡ 12) × (editedBy edit h ≡ h))
-answer h (replaceDestination a) = inl (sound-off h (Present a) (h .source))
-answer h (replaceSource a) = inl (sound-off h (h .destination) (Present a))
-answer h removeSource = inl (sound-off h (h .destination) Absent)
-answer h switchOff = inl (sound-off h (h .destination) (h .source))
+answer : (h : Header) (edit : Edit) → (numberOf edit h ≡ 0) ⊎ ((numberOf edit h ≡ 12) × (editedBy edit h ≡ h))
+answer h (replaceDestination a) = inl refl
+answer h (replaceSource a) = inl refl
+answer h removeSource = inl refl
+answer h switchOff = inl refl
 answer h switchOn =
     cases (holds? (pairShares (h .destination) (h .source)))
-    (λ t. simp t (inl (sound-on h (h .destination) (h .source) t)))
+    (λ t. simp t (inl refl))
     (λ f. simp f (inr (refl, refl)))
-
-sound : (h : Header) (edit : Edit) → numberOf edit h ≡ 0 → Sound (editedBy edit h)
-sound h edit zero = cases (answer h edit) (λ q. q) (λ r. absurd (omega (arith, zero, r .0)))
 
 -- the security part stays, and each number stays within its width
 security-stays : (h : Header) (edit : Edit) → editedBy edit h .«auxiliary_security_header» ≡ h .«auxiliary_security_header»
@@ -148,18 +145,22 @@ pub after-edit : (h : Header) (edit : Edit) → Small h → SmallEdit edit → A
 after-edit h edit small fits =
     let g = editedBy edit h in
     record {
-      kept = λ zero. sound h edit zero .kept;
-      whole = lacks-none h edit;
+      kept = λ zero. taken h edit zero .0 .kept;
+      whole = λ zero. taken h edit zero .1;
       back = λ counter room n more fits-counter e. record-side g counter room n more (small-stays h edit small fits) fits-counter e;
       told = λ zero counter.
-          ap (λ (s : OptionalAddress). quiet g s (partTold (g .«auxiliary_security_header») counter)) (sound h edit zero .source);
+          ap (λ (s : OptionalAddress). quiet g s (partTold (g .«auxiliary_security_header») counter)) (taken h edit zero .0 .source);
     }
 
 -- an edit keeps a record fit, and so do edits one after the other
 fit-edit : (h : Header) (edit : Edit) → SmallEdit edit → Fit h → Fit (editedBy edit h)
 fit-edit h edit fits fit =
     cases (answer h edit)
-    (λ sound. record { small = small-stays h edit (fit .small) fits; part = rw (security-stays h edit) (fit .part); sound = sound })
+    (λ zero. record {
+      small = small-stays h edit (fit .small) fits;
+      part = rw (security-stays h edit) (fit .part);
+      sound = taken h edit zero .0;
+    })
     (λ stays. rw (stays .1) fit)
 
 fit-all : (h : Header) (changes : List Edit) → SmallEdits changes → Fit h → Fit (editedByAll changes h)
@@ -172,6 +173,16 @@ security-all : (h : Header) (changes : List Edit) →
 unfolding editedByAll
 security-all h [] = refl
 security-all h (edit ∷ changes) = security-all (editedBy edit h) changes ∙ security-stays h edit
+
+-- only where none was accepted is an address missing that compression asks for
+lacking : (h : Header) (changes : List Edit) → lacksAddress (editedByAll changes h) ≡ true → editedByAll changes h ≡ h
+unfolding editedByAll
+lacking h [] lacks = refl
+lacking h (edit ∷ changes) lacks =
+    let same = lacking (editedBy edit h) changes lacks in
+    cases (answer h edit)
+    (λ zero. absurd (true≢false (sym lacks ∙ ap lacksAddress same ∙ taken h edit zero .1)))
+    (λ stays. same ∙ stays .1)
 
 -- What holds of a header that was read, edited by any edits and written with the counter that was read.
 pub bridged : (s : List ℕ) (h : Header) (n : ℕ) (changes : List Edit) → Bytes s → readHeader s ≡ Read h n → SmallEdits changes →
@@ -186,6 +197,8 @@ bridged s h n changes b e small =
       least = bounds .0;
       most = bounds .1;
       counter = ap counterRead (security-all h changes);
+      lacking = lacking h changes;
       accepted = accepted g fit;
       again = again g fit;
+      in-buffer = λ out to. in-buffer g out to fit;
     }

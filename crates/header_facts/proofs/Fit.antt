@@ -1,14 +1,17 @@
--- What suffices of a record to be written with its own counter and read back: each record that was read is fit, and so is each that it is
--- edited to.
+-- What suffices of a record to be written with its own counter and read back, by its bytes and from any buffer: each record that was read
+-- is fit, and so is each that it is edited to.
 -- Assumes nothing.
-use Prim.Native.Nat.{ℕ, _^_, _≤_, _<_}
+use Prim.Native.Nat.{ℕ, _+_, _-_, _^_, _≤_, _<_}
 use native.Mathlib.Omega.{arith}
 use mathlib.Core.Bool.{false, not, _&&_}
 use mathlib.Core.List.{List, _++_}
 use mathlib.Core.Path.{_≡_, refl, sym, ap, _∙_}
 use borrow.Author.Tests.{le-ltb, eq-eqb}
 use lib.Dec.{ltb, eqb}
-use lib.ListN.{length}
+use lib.ListN.{length, take, drop}
+use lib.Seq.{drop-at, length-take-le}
+use Rattle.octets.specs.Buffer.{laid}
+use Rattle.octets.proofs.Buffer.{laid-length, laid-again, laid-parts}
 use Rattle.frame_control.specs.Modes.{modeBits}
 use Rattle.address.specs.Address.{modeOf, sharedPan}
 use Rattle.address.specs.Layout.{sharing}
@@ -21,9 +24,10 @@ use Rattle.header.specs.declared.Header.{Header}
 use Rattle.header.specs.declared.HeaderRead.the-variants.{Read}
 use Rattle.header.specs.Record.{ownsSource, addressesEnd, headerLength}
 use Rattle.header.specs.Read.{readHeader}
-use Rattle.header.specs.Write.{lacksAddress, writeHeader}
+use Rattle.header.specs.Write.{lacksAddress, writeHeader, headerBytes}
 use Rattle.header.proofs.Writing.{header-length}
 use Rattle.header_facts.specs.Rewritten.{quiet, lost, ownCounter, rewritten}
+use Rattle.header_facts.specs.RoundTrip.{headerAfter, InBuffer}
 use Rattle.header_facts.specs.Told.{partTold, SmallPart, Small}
 use Rattle.header_facts.proofs.Back.{header-back}
 
@@ -76,3 +80,53 @@ module _ (h : Header) (fit : Fit h) where
       let sound = fit .sound in
       header-back h (counterOf (ownCounter h)) more (fit .small) (part .counter) (part .level) (sound .shared)
       ∙ (λ i. Read (quiet h (sound .source i) (part .same i)) (sym (sound .kept) i))
+
+  -- in a buffer they stand between what lay before and behind them
+  parted : (out : List ℕ) (to : ℕ) → to + h .length ≤ length out →
+      laid out to (rewritten h) ≡ take to out ++ (rewritten h ++ drop (to + h .length) out)
+  parted out to room =
+      laid-parts out to (rewritten h) (omega (arith, long))
+      ∙ ap (λ (k : ℕ). take to out ++ (rewritten h ++ drop (to + k) out)) long
+
+-- without the two flags it is as fit, and is written as the same bytes
+fit-lost : (h : Header) → Fit h → Fit (lost h)
+fit-lost h fit =
+    let small = fit .small in
+    let sound = fit .sound in
+    record {
+      small = record { seq = small .seq; destination = small .destination; source = small .source; security = small .security };
+      part = fit .part;
+      sound = record { shared = sound .shared; source = sound .source; kept = refl };
+    }
+
+pub settled : (h : Header) → rewritten (lost h) ≡ rewritten h
+unfolding headerBytes
+settled h = refl
+
+-- an accepted writing stores the bytes
+left-stored : (h : Header) (n : ℕ) (out : List ℕ) (to : ℕ) → writeHeader h (ownCounter h) (length out - to) ≡ Written n →
+    headerAfter h out to ≡ laid out to (rewritten h)
+left-stored h n out to e = rw e
+
+-- a fit record in any buffer with room: stored there, read from there, stored once more
+pub in-buffer : (h : Header) (out : List ℕ) (to : ℕ) → Fit h → lacksAddress h ≡ false → to + h .length ≤ length out → InBuffer h out to
+in-buffer h out to fit both room =
+    let kept = sym (fit .sound .kept) in
+    let answer = accepted h fit (length out - to) both (omega arith) in
+    let left : headerAfter h out to ≡ laid out to (rewritten h) = left-stored h (h .length) out to answer in
+    let stored = left ∙ parted h fit out to room in
+    let place : length (take to out) ≡ to = length-take-le to out (omega arith) in
+    let same : length (headerAfter h out to) ≡ length out = ap length left ∙ laid-length out to (rewritten h) in
+    let once-more = accepted (lost h) (fit-lost h fit) (length (headerAfter h out to) - to) both (omega (arith, same, kept)) in
+    record {
+      accepted = answer;
+      stored = stored;
+      again = ap (λ (l : List ℕ). readHeader (drop to l)) stored
+          ∙ ap readHeader (drop-at (take to out) (rewritten h ++ drop (to + h .length) out) to place)
+          ∙ again h fit (drop (to + h .length) out);
+      once-more = once-more ∙ ap Written kept;
+      settled = left-stored (lost h) (headerLength h) (headerAfter h out to) to once-more
+          ∙ (λ i. laid (left i) to (settled h i))
+          ∙ laid-again out to (rewritten h)
+          ∙ sym left;
+    }

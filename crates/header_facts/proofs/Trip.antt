@@ -1,6 +1,6 @@
 -- Demand 3 for a header, point by point, and with every byte of a buffer.
 -- Assumes nothing.
-use Prim.Native.Nat.{ℕ, _+_, _-_, _≤_}
+use Prim.Native.Nat.{ℕ, _+_, _≤_}
 use native.Mathlib.Omega.{arith}
 use mathlib.Core.Bool.{Bool, true, false, true≢false, cond, not, _&&_}
 use mathlib.Core.List.{List, _++_}
@@ -8,11 +8,9 @@ use mathlib.Core.Path.{_≡_, refl, sym, ap, _∙_}
 use borrow.Author.Tests.{le-ltb}
 use lib.Dec.{eqb}
 use lib.ListN.{length, take, drop, length-append}
-use lib.Seq.{drop-at, length-take-le}
 use Rattle.octets.specs.Bits.{bits, bit}
-use Rattle.octets.specs.Buffer.{laid}
 use Rattle.octets.specs.Little.{number, Bytes}
-use Rattle.octets.proofs.Buffer.{laid-length, laid-again, laid-parts}
+use Rattle.octets.proofs.Buffer.{laid-parts}
 use Rattle.octets.proofs.Cases.{cases, holds?}
 use Rattle.octets.proofs.Little.{number-more, number-small}
 use Rattle.header_bytes.specs.Layout.{start, destinationEnd, sourceEnd, headerEnd, securitySize}
@@ -39,15 +37,15 @@ use Rattle.header.specs.declared.Header.{Header}
 use Rattle.header.specs.declared.HeaderRead.the-variants.{Read}
 use Rattle.header.specs.Record.{headerOf, headerLength}
 use Rattle.header.specs.Read.{destinationIn, sourceIn, headerIn, readBy, readHeader}
-use Rattle.header.specs.Write.{lacksAddress, writeHeader, headerBytes}
+use Rattle.header.specs.Write.{lacksAddress, writeHeader}
 use Rattle.header.proofs.Apart.{together, apart}
 use Rattle.header_facts.specs.Rewritten.{lost, ownCounter, rewritten, Rewritten}
-use Rattle.header_facts.specs.RoundTrip.{headerAfter, RoundTrip}
+use Rattle.header_facts.specs.RoundTrip.{InBuffer, RoundTrip}
 use Rattle.header_facts.specs.Told.{Small}
 use Rattle.header_facts.proofs.Fields.{ownTo, ownFrom, to-bits, from-bits, owns-from, destination-size, source-size}
 use Rattle.header_facts.proofs.Fields.{part-whole, length-told}
 use Rattle.header_facts.proofs.Again.{header-again}
-use Rattle.header_facts.proofs.Fit.{FitPart, Fit, accepted as fit-accepted, long as fit-long, again as fit-again}
+use Rattle.header_facts.proofs.Fit.{FitPart, Fit, settled, in-buffer, accepted as fit-accepted, long as fit-long, again as fit-again}
 
 -- what was read fits
 part-facts : (on : Bool) (s : List ℕ) (at : ℕ) → Bytes s → (on ≡ true → at + lengthIn s at ≤ length s) → FitPart (optionalIn on s at)
@@ -186,10 +184,6 @@ module _ (s : List ℕ) (b : Bytes s) (p : Passed s (number s 0 2)) where
   long : length (rewritten header) ≡ size
   long = fit-long header fit ∙ length-told s p
 
-  settled : rewritten (lost header) ≡ rewritten header
-  unfolding headerBytes
-  settled = refl
-
   once-more : (room : ℕ) → sourceless word ≡ false → size ≤ room → writeHeader (lost header) (ownCounter header) room ≡ Written size
   unfolding writeParts
   once-more = accepted
@@ -205,7 +199,7 @@ module _ (s : List ℕ) (b : Bytes s) (p : Passed s (number s 0 2)) where
     buffer = λ out to h. laid-parts out to (rewritten header) (omega (arith, long))
         ∙ ap (λ (k : ℕ). take to out ++ (rewritten header ++ drop (to + k) out)) long;
     again = again;
-    settled = settled;
+    settled = settled header;
     once-more = once-more;
     behind = behind s p;
   }
@@ -232,35 +226,23 @@ kept-read s h n e =
 pub unread : (s : List ℕ) (h : Header) (n : ℕ) (more : List ℕ) → readHeader s ≡ Read h n → readHeader (s ++ more) ≡ Read h n
 unread s h n more e = let q = apart s h n e in behind s (q .passed) more ∙ (λ i. Read (q .header i) (q .size i))
 
--- an accepted writing stores the bytes
-left-stored : (h : Header) (n : ℕ) (out : List ℕ) (to : ℕ) → writeHeader h (ownCounter h) (length out - to) ≡ Written n →
-    headerAfter h out to ≡ laid out to (rewritten h)
-left-stored h n out to e = rw e
-
 -- Demand 3, with every byte of a buffer.
 pub round-trip : (s : List ℕ) (h : Header) (n : ℕ) (out : List ℕ) (to : ℕ) → Bytes s → readHeader s ≡ Read h n →
     sourceless (number s 0 2) ≡ false → to + n ≤ length out →
     RoundTrip s h n out to
 round-trip s h n out to b e both room =
+    let q = apart s h n e in
     let trip = header-rewritten s h n b e in
-    let accepted = trip .accepted (length out - to) both (omega arith) in
-    let left : headerAfter h out to ≡ laid out to (rewritten h) = left-stored h n out to accepted in
-    let parted = left ∙ trip .buffer out to room in
-    let place : length (take to out) ≡ to = length-take-le to out (omega arith) in
-    let same : length (headerAfter h out to) ≡ length out = ap length left ∙ laid-length out to (rewritten h) in
-    let once-more = trip .once-more (length (headerAfter h out to) - to) both (omega (arith, same)) in
+    let kept = trip .kept in
+    let there = ap lacksAddress (sym (q .header)) ∙ lacks s b (q .passed) ∙ both in
+    let into : InBuffer h out to = in-buffer h out to (fit-read s h n b e) there (omega (arith, kept)) in
     record {
       within = trip .within;
-      accepted = accepted;
+      accepted = into .accepted ∙ ap Written kept;
       long = ap length (sym (trip .written)) ∙ trip .long;
-      stored = parted ∙ ap (λ (l : List ℕ). take to out ++ (l ++ drop (to + n) out)) (trip .written);
-      again = ap (λ (l : List ℕ). readHeader (drop to l)) parted
-          ∙ ap readHeader (drop-at (take to out) (rewritten h ++ drop (to + n) out) to place)
-          ∙ trip .again (drop (to + n) out);
-      once-more = once-more;
-      settled = left-stored (lost h) n (headerAfter h out to) to once-more
-          ∙ (λ i. laid (left i) to (trip .settled i))
-          ∙ laid-again out to (rewritten h)
-          ∙ sym left;
+      stored = into .stored ∙ (λ i. take to out ++ (trip .written i ++ drop (to + kept i) out));
+      again = into .again ∙ ap (Read (lost h)) kept;
+      once-more = into .once-more ∙ ap Written kept;
+      settled = into .settled;
       behind = trip .behind;
     }

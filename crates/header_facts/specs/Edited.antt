@@ -13,6 +13,7 @@ use Rattle.header.specs.Edit.{destinationReplaced, sourceReplaced, sourceRemove
 use Rattle.header.specs.Edit.{editNumber, editRecord}
 use Rattle.header.specs.declared.HeaderRead.the-variants.{Read}
 use Rattle.header_facts.specs.Rewritten.{quiet, lost, ownCounter, rewritten}
+use Rattle.header_facts.specs.RoundTrip.{InBuffer}
 use Rattle.header_facts.specs.Told.{partTold, headerTold}
 
 -- g is h with compression and addresses exchanged for those given: each other field is as it was, and the kept length
@@ -112,8 +113,12 @@ pub record Bridged (h g : Header) : Type 0 where
   pub most : g .length ≤ 37
   -- the counter is the one that was read
   pub counter : ownCounter g ≡ ownCounter h
-  -- with room, writing is accepted, unless it is still compressed without a source
+  -- compressed with an address missing, it is the header that was read
+  pub lacking : lacksAddress g ≡ true → g ≡ h
+  -- else writing is accepted, with room
   pub accepted : (room : ℕ) → lacksAddress g ≡ false → g .length ≤ room →
       writeHeader g (ownCounter g) room ≡ Written (g .length)
   -- reading what was written gives that record but for the two flags, whatever follows
   pub again : (more : List ℕ) → readHeader (rewritten g ++ more) ≡ Read (lost g) (g .length)
+  -- the same with every byte of a buffer
+  pub in-buffer : (out : List ℕ) (to : ℕ) → lacksAddress g ≡ false → to + g .length ≤ length out → InBuffer g out to
