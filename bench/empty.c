@@ -17,3 +17,11 @@ uint64_t empty_rewrite(const uint8_t *frame, size_t length, uint8_t *out, size_t
     (void)room;
     return 0;
 }
+
+uint64_t empty_number(const uint8_t *s, size_t length, size_t at)
+{
+    (void)s;
+    (void)length;
+    (void)at;
+    return 0;
+}

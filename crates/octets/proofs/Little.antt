@@ -11,7 +11,7 @@ use mir.Syntax.{w8}
 use mir.Val.{Fits}
 use borrow.Author.Tests.{ltb-true, leb-true, leb-false}
 use lib.Dec.{ltb, leb}
-use lib.ListN.{length, getD, take, drop, length-drop, drop-of-length-le}
+use lib.ListN.{length, getD, take, drop, length-take, length-drop, drop-of-length-le}
 use lib.Seq.{drop-at, take-at, take-all, take-nil, length-take-le, drop-append-le, take-append-le, take-add, drop-drop, drop-nil}
 use Rattle.octets.specs.Little.{join, split, number, Bytes}
 use Rattle.octets.proofs.Cases.{cases, holds?}
@@ -69,10 +69,12 @@ join-split (suc n) v h =
     let k : v / 256 < 256 ^ n = omega arith in
     rw (join-split n (v / 256) k) (omega arith)
 
-pub join-small : (s : List ℕ) → Bytes s → join s < 256 ^ length s
+pub join-small : (n : ℕ) (s : List ℕ) → Bytes s → length s ≤ n → join s < 256 ^ n
 unfolding join
-join-small [] b = omega arith
-join-small (x ∷ s) b = omega (arith, join-small s (b .1), pow-suc 256 (length s))
+join-small zero [] b h = omega arith
+join-small (suc n) [] b h = omega (arith, join-small n [] tt (omega arith), pow-suc 256 n)
+join-small zero (x ∷ s) b h = absurd (omega arith)
+join-small (suc n) (x ∷ s) b h = omega (arith, join-small n s (b .1) (omega arith), pow-suc 256 n)
 
 pub join-append : (s t : List ℕ) → join (s ++ t) ≡ join s + 256 ^ length s * join t
 unfolding join
@@ -82,6 +84,10 @@ join-append (x ∷ s) t =
     rw (join-append s t, e) (omega arith)
 
 -- a number at a place, byte by byte and part by part
+pub number-none : (s : List ℕ) (at : ℕ) → number s at 0 ≡ 0
+unfolding number join
+number-none s at = refl
+
 pub number-one : (s : List ℕ) (at : ℕ) → number s at 1 ≡ getD s at 0
 unfolding number join
 number-one [] at = rw drop-nil
@@ -124,6 +130,10 @@ number-join s at m n =
     (λ t. join-there s at m n (leb-true _ _ t))
     (λ t. let h : length s < at + m = leb-false _ _ t in join-past s at m n (omega arith))
 
+-- a byte, and above it the number behind
+pub number-next : (s : List ℕ) (at n : ℕ) → number s at (suc n) ≡ number s at 1 + 256 * number s (at + 1) n
+number-next s at n = let e : suc n ≡ 1 + n = omega arith in rw (e, number-join s at 1 n) (omega arith)
+
 -- read back from what was written
 pub number-back : (p : List ℕ) (at n v : ℕ) (t : List ℕ) → length p ≡ at → v < 256 ^ n → number (p ++ (split n v ++ t)) at n ≡ v
 unfolding number
@@ -145,9 +155,15 @@ number-more s t at n h =
     let k : n ≤ length (drop at s) = rw length-drop (omega arith) in
     rw (drop-append-le at s t a, take-append-le n (drop at s) t k)
 
--- within its width
-pub number-small : (s : List ℕ) (at n : ℕ) → Bytes s → at + n ≤ length s → number s at n < 256 ^ n
+-- within its width, and within any greater one
+pub number-within : (s : List ℕ) (at n k : ℕ) → Bytes s → n ≤ k → number s at n < 256 ^ k
 unfolding number
-number-small s at n b h =
-    let k : length (take n (drop at s)) ≡ n = length-take-le n (drop at s) (rw length-drop (omega arith)) in
-    rw k at (join-small (take n (drop at s)) (bytes-take n (drop at s) (bytes-drop at s b)))
+number-within s at n k b h =
+    join-small k (take n (drop at s)) (bytes-take n (drop at s) (bytes-drop at s b)) (rw (length-take n (drop at s)) (omega arith))
+
+pub number-small : (s : List ℕ) (at n : ℕ) → Bytes s → at + n ≤ length s → number s at n < 256 ^ n
+number-small s at n b _ = number-within s at n n b (omega arith)
+
+-- all bytes that are left, in whatever width they lie
+pub number-left : (s : List ℕ) (at m n : ℕ) → length s - at ≤ m → m ≤ n → number s at n ≡ number s at m
+number-left s at m n h l = number-all s at n (omega arith) ∙ sym (number-all s at m (omega arith))

@@ -1,7 +1,7 @@
 // Little-endian numbers at a place of a slice, read and stored, and what an answer says in document 01's numbers. No
-// function asks anything: bytes past the end of a slice count as 0 where they are read, and are dropped where they are
-// stored. Readers and writers measure first.
-ghost use Rattle.octets.specs.Words.{_+_, _-_, _≤_, _<_, min, cond, _≡_, ltb, length};
+// public function asks anything: bytes past the end of a slice count as 0 where they are read, and are dropped where
+// they are stored. Readers and writers measure first.
+ghost use Rattle.octets.specs.Words.{_+_, _-_, _^_, _≤_, _<_, min, cond, _≡_, ltb, length};
 ghost use Rattle.octets.specs.Bits.{bitOf};
 ghost use Rattle.octets.specs.Buffer.{laid, after, fitting};
 ghost use Rattle.octets.specs.Little.{split, number};
@@ -82,13 +82,6 @@ pub fn bit_of(flag: bool) -> u8
     if flag { 1 } else { 0 }
 }
 
-fn wide(b: u8) -> u16
-    ensures { λ r. ⌜ r ≡ b ⌝ }
-    ensures { λ r. ⌜ r < 256 ⌝ }
-{
-    b as u16
-}
-
 // The byte at a place, 0 past the end.
 pub fn u8_at(s: &[u8], at: usize) -> u8
     ensures { λ r. ⌜ r ≡ number (now (s .entry)) at 1 ⌝ }
@@ -103,25 +96,67 @@ pub fn behind(s: &[u8], at: usize, n: usize) -> usize
     if left(s, at) < n { s.len() } else { at + n }
 }
 
+// The number in eight bytes, those past the end 0, with a test for each. The readers of every width call it where a
+// slice ends within their bytes, so that it stands in the code once.
+fn padded_at(s: &[u8], at: usize) -> u64
+    ensures { λ r. ⌜ r ≡ number (now (s .entry)) at 8 ⌝ }
+{
+    let mut v = 0;
+    let mut i = 8;
+    while i > 0 {
+        i -= 1;
+        v = 256 * v + (u8_at(s, behind(s, at, i)) as u64);
+    }
+    v
+}
+
+// The number in n bytes, by one loop for every width. Asks that they are there, and for no more than eight.
+fn number_at(s: &[u8], at: usize, n: usize) -> u64
+    requires { ⌜ n ≤ 8 ⌝ }
+    requires { ⌜ at + n ≤ length (now s) ⌝ }
+    ensures { λ r. ⌜ r ≡ number (now (s .entry)) at n ⌝ }
+    ensures { λ r. ⌜ r < 256 ^ n ⌝ }
+{
+    let mut v = 0;
+    let mut i = 0;
+    while i < n {
+        i += 1;
+        v = (s[at + (n - i)] as u64) + 256 * v;
+    }
+    v
+}
+
 // The number in two bytes, those past the end 0.
 pub fn u16_at(s: &[u8], at: usize) -> u16
     ensures { λ r. ⌜ r ≡ number (now (s .entry)) at 2 ⌝ }
 {
-    wide(u8_at(s, at)) + 256 * wide(u8_at(s, behind(s, at, 1)))
+    if left(s, at) < 2 {
+        padded_at(s, at) as u16
+    } else {
+        number_at(s, at, 2) as u16
+    }
 }
 
 // The number in four bytes, those past the end 0.
 pub fn u32_at(s: &[u8], at: usize) -> u32
     ensures { λ r. ⌜ r ≡ number (now (s .entry)) at 4 ⌝ }
 {
-    (u16_at(s, at) as u32) + 0x1_0000 * (u16_at(s, behind(s, at, 2)) as u32)
+    if left(s, at) < 4 {
+        padded_at(s, at) as u32
+    } else {
+        number_at(s, at, 4) as u32
+    }
 }
 
 // The number in eight bytes, those past the end 0.
 pub fn u64_at(s: &[u8], at: usize) -> u64
     ensures { λ r. ⌜ r ≡ number (now (s .entry)) at 8 ⌝ }
 {
-    (u32_at(s, at) as u64) + 0x1_0000_0000 * (u32_at(s, behind(s, at, 4)) as u64)
+    if left(s, at) < 8 {
+        padded_at(s, at)
+    } else {
+        number_at(s, at, 8)
+    }
 }
 
 // The lesser of two numbers.

@@ -1,28 +1,26 @@
--- `octets::u16_at` meets its contract: two bytes are one number.
+-- `octets::u16_at` meets its contract: where fewer than two bytes are left, the number in eight is the number in two.
 -- Assumes nothing.
+use native.Mathlib.Omega.{arith}
+use mathlib.Core.Path.{_∙_}
 use borrow.Author.Needs.{needs}
-use Rattle.octets.proofs.Little.{number-join, number-behind}
+use Rattle.octets.proofs.Little.{bytes-known, number-left, number-within}
 use Rattle.octets.proofs.u16_at.Statement.{statement}
 use Rattle.octets.proofs.u16_at.Tie as tie
 
-returns : tie.Need-returns
-returns c =
-    let second = c .before in
-    let place = second .before in
-    let low = place .before in
-    let a = low .before .before .before .args in
-    rw (
-      number-join (a .s .now) (a .at) 1 1,
-      low .wide .ensures .0,
-      low .before .u8-at .ensures,
-      c .wide2 .ensures .0,
-      second .u8-at2 .ensures,
-      place .behind .ensures,
-      number-behind (a .s .now) (a .at) 1 1,
-    )
+short : tie.Need-returns
+short c =
+    let d = c .before .before in
+    let a = d .before .before .args in
+    c .padded-at .ensures ∙ number-left (a .s .now) (a .at) 2 8 (omega (arith, d .left .ensures)) (omega arith)
+
+short-fits : tie.Need-cast-result
+short-fits c =
+    let k = c .before .before .before in
+    let a = k .before .args in
+    let b = bytes-known (a .s .now) (k .shared-slice-known .given) in
+    record { fits = omega (arith, short c, number-within (a .s .now) (a .at) 2 2 b (omega arith)) }
 
 pub u16-at-spec : {M : Type 1} → statement M
 u16-at-spec =
     tie.close
-    (tie.spec (λ c κs. search needs) (λ c κs. search needs) (λ c κs. search needs) (λ c κs. search needs) (λ c κs. search needs)
-    (λ c. search needs) (λ c. search needs) returns)
+    (tie.spec (λ c κs. search needs) (λ c κs. search needs) short-fits (λ c κs. search needs) (λ c. search needs) short (λ c. search needs))
