@@ -60,7 +60,8 @@ static uint64_t plain(const struct frame *f, size_t at, size_t n)
 /* Of a frame's first, last and middle places, of those past its end, and of the greatest there is. */
 static void check_numbers(const struct frame *f)
 {
-    size_t places[] = {0, 1, f->length / 2, f->length - 1, f->length - 2, f->length - 3, f->length - 4, f->length - 7, f->length - 8, f->length - 9, f->length, f->length + 1, SIZE_MAX, SIZE_MAX - 6};
+    size_t end = f->length;
+    size_t places[] = {0, 1, end / 2, end - 1, end - 2, end - 3, end - 4, end - 7, end - 8, end - 9, end, end + 1, SIZE_MAX, SIZE_MAX - 6};
     for (size_t k = 0; k < sizeof places / sizeof places[0]; k++) {
         size_t at = places[k];
         if (record_two(f->bytes, f->length, at) != plain(f, at, 2) || record_four(f->bytes, f->length, at) != plain(f, at, 4) ||
