@@ -96,8 +96,8 @@ pub fn behind(s: &[u8], at: usize, n: usize) -> usize
     if left(s, at) < n { s.len() } else { at + n }
 }
 
-// The number in eight bytes, those past the end 0, with a test for each. The readers of every width call it where a
-// slice ends within their bytes, so that it stands in the code once.
+// The number in eight bytes, those past the end 0, with a test for each. The readers of every width come here where a
+// slice ends within their bytes.
 fn padded_at(s: &[u8], at: usize) -> u64
     ensures { λ r. ⌜ r ≡ number (now (s .entry)) at 8 ⌝ }
 {
@@ -113,7 +113,7 @@ fn padded_at(s: &[u8], at: usize) -> u64
 // The number in n bytes, by one loop for every width. Asks that they are there, and for no more than eight.
 fn number_at(s: &[u8], at: usize, n: usize) -> u64
     requires { ⌜ n ≤ 8 ⌝ }
-    requires { ⌜ at + n ≤ length (now s) ⌝ }
+    requires { ⌜ n ≤ length (now s) - at ⌝ }
     ensures { λ r. ⌜ r ≡ number (now (s .entry)) at n ⌝ }
     ensures { λ r. ⌜ r < 256 ^ n ⌝ }
 {
@@ -126,26 +126,32 @@ fn number_at(s: &[u8], at: usize, n: usize) -> u64
     v
 }
 
+// The number in n bytes, those past the end 0. Asks for no more than eight. `u64_at` has the same test of its own: with
+// two callers `padded_at` stays a call.
+fn narrow_at(s: &[u8], at: usize, n: usize) -> u64
+    requires { ⌜ n ≤ 8 ⌝ }
+    ensures { λ r. ⌜ r ≡ number (now (s .entry)) at n ⌝ }
+    ensures { λ r. ⌜ r < 256 ^ n ⌝ }
+{
+    if left(s, at) < n {
+        padded_at(s, at)
+    } else {
+        number_at(s, at, n)
+    }
+}
+
 // The number in two bytes, those past the end 0.
 pub fn u16_at(s: &[u8], at: usize) -> u16
     ensures { λ r. ⌜ r ≡ number (now (s .entry)) at 2 ⌝ }
 {
-    if left(s, at) < 2 {
-        padded_at(s, at) as u16
-    } else {
-        number_at(s, at, 2) as u16
-    }
+    narrow_at(s, at, 2) as u16
 }
 
 // The number in four bytes, those past the end 0.
 pub fn u32_at(s: &[u8], at: usize) -> u32
     ensures { λ r. ⌜ r ≡ number (now (s .entry)) at 4 ⌝ }
 {
-    if left(s, at) < 4 {
-        padded_at(s, at) as u32
-    } else {
-        number_at(s, at, 4) as u32
-    }
+    narrow_at(s, at, 4) as u32
 }
 
 // The number in eight bytes, those past the end 0.
