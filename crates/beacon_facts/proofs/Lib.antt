@@ -9,3 +9,4 @@ pub mod Pending
 pub mod Beacon
 pub mod Trip
 pub mod Demand
+pub mod Senses

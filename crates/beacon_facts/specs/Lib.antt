@@ -3,3 +3,4 @@ pub mod Format
 pub mod Formats
 pub mod RoundTrip
 pub mod Demand
+pub mod Senses

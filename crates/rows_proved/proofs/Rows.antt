@@ -1,4 +1,4 @@
--- Rows P1 to P13 of document 01, by computing.
+-- Rows P1 to P13 of document 01, as requests of document 02 change them, by computing.
 -- Assumes nothing.
 use mathlib.Core.List.{map, flatMap}
 use mathlib.Core.Path.{_≡_, refl}

@@ -1,5 +1,5 @@
 -- Document 01, "Frames to try", rows P1 to P13: what reading a header, a beacon or a GTS field answers, its record, its
--- lengths, and what writing it again gives. P13 is as request 2 of document 02 changes it.
+-- lengths, and what writing it again gives. P12 and P13 are as requests 6 and 2 of document 02 change them.
 use Rattle.octets.specs.Words.{ℕ, Bool, true, false, cond, List, [], _∷_, eqb, replicate}
 use Rattle.octets.specs.declared.{Outcome.Outcome}
 use Rattle.octets.specs.Value.{valueOutcome}
@@ -30,7 +30,8 @@ use Rattle.time_slots.specs.declared.{GuaranteedTimeSlotInformation.GuaranteedT
 use Rattle.time_slots.specs.declared.{TimeSlotsRead.TimeSlotsRead}
 use Rattle.time_slots.specs.Descriptor.{descriptorOf, emptyDescriptor}
 use Rattle.time_slots.specs.TimeSlots.{timeSlotsOf, readTimeSlots, timeSlotsBytes, writeTimeSlots}
-use Rattle.time_slots.specs.declared.Direction.the-variants.{Transmit}
+use Rattle.time_slots.specs.declared.{Direction.Direction}
+use Rattle.time_slots.specs.declared.Direction.the-variants.{Receive, Transmit}
 use Rattle.pending.specs.Pending.{emptyPending}
 use Rattle.beacon.specs.declared.{Beacon.Beacon, BeaconRead.BeaconRead}
 use Rattle.beacon.specs.Beacon.{beaconOf, readBeacon, beaconBytes, writeBeacon}
@@ -150,15 +151,18 @@ ordersSixFour =
       «association_permit» = true;
     }
 
--- permit, one Transmit slot of device 2, start 5, length 3
-abbrev pub oneSlot : GuaranteedTimeSlotInformation
-oneSlot = timeSlotsOf true 1 (descriptorOf (short 2) 5 3 Transmit ∷ replicate 6 emptyDescriptor)
+-- permit, one slot of device 2, start 5, length 3
+abbrev pub oneSlot : Direction → GuaranteedTimeSlotInformation
+oneSlot direction = timeSlotsOf true 1 (descriptorOf (short 2) 5 3 direction ∷ replicate 6 emptyDescriptor)
 
 abbrev pub p7 : List ℕ
 p7 = 0x41 ∷ 0x88 ∷ 0x07 ∷ 0x34 ∷ 0x12 ∷ 0x01 ∷ 0x00 ∷ 0x02 ∷ 0x00 ∷ []
 
 abbrev pub p13 : List ℕ
 p13 = 0x81 ∷ 0x01 ∷ 0x02 ∷ 0x00 ∷ 0x35 ∷ []
+
+abbrev pub p13clear : List ℕ
+p13clear = 0x81 ∷ 0x00 ∷ 0x02 ∷ 0x00 ∷ 0x35 ∷ []
 
 abbrev pub rows : List (Asked × Seen)
 rows =
@@ -229,16 +233,18 @@ rows =
         again = written 9 (0x09 ∷ 0x00 ∷ 0x01 ∷ 0x0D ∷ 0x01 ∷ 0x00 ∷ 0x00 ∷ 0x00 ∷ 0x07 ∷ []);
       }),
     ) ∷
-    -- P12: one direction bit of a slot that is there, seven of slots that are not
+    -- P12: one direction bit of a slot that is there, set and so Receive (request 6), seven of slots that are not
     (
       beacon? (0x46 ∷ 0xCF ∷ 0x81 ∷ 0xFF ∷ 0x02 ∷ 0x00 ∷ 0x35 ∷ 0x00 ∷ []),
       beacon (record {
-        read = beaconOf ordersSixFour oneSlot emptyPending;
+        read = beaconOf ordersSixFour (oneSlot Receive) emptyPending;
         length = 8;
         again = written 8 (0x46 ∷ 0xCF ∷ 0x81 ∷ 0x01 ∷ 0x02 ∷ 0x00 ∷ 0x35 ∷ 0x00 ∷ []);
       }),
     ) ∷
     -- P13: a GTS field alone, less its last byte and whole, with nothing behind it (request 2)
     (slots? (0x81 ∷ 0x01 ∷ 0x02 ∷ 0x00 ∷ []), refusal 1) ∷
-    (slots? p13, slots (record { read = oneSlot; length = 5; again = written 5 p13 })) ∷
+    (slots? p13, slots (record { read = oneSlot Receive; length = 5; again = written 5 p13 })) ∷
+    -- and with its direction bit clear: the slot is Transmit, unused places stay Receive (request 6)
+    (slots? p13clear, slots (record { read = oneSlot Transmit; length = 5; again = written 5 p13clear })) ∷
     []

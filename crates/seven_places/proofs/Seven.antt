@@ -5,7 +5,7 @@ use native.Mathlib.Nat.{mul-zero, mul-suc, mul-add}
 use native.Mathlib.Numerals.{add-one}
 use native.Mathlib.Omega.{arith}
 use mathlib.Core.Bool.{Bool, true, false, cond}
-use mathlib.Core.List.{List, [], _∷_, flatMap}
+use mathlib.Core.List.{List, [], _∷_, _++_, map, flatMap}
 use mathlib.Core.Path.{_≡_, refl, sym, _∙_}
 use borrow.Author.Tests.{lt-ltb, ltb-true}
 use lib.Dec.{ltb}
@@ -90,6 +90,20 @@ module _ {A : Type 0} where
   in-use entry empty (suc (suc (suc (suc (suc (suc zero)))))) h = refl
   in-use entry empty (suc (suc (suc (suc (suc (suc (suc zero))))))) h = refl
   in-use entry empty (suc (suc (suc (suc (suc (suc (suc (suc n)))))))) h = absurd (omega arith)
+
+  -- these alone changed
+  pub in-use-changed : (change : A → A) (entry : ℕ → A) (empty : A) (n : ℕ) → n ≤ 7 →
+      map change (take n (seven entry empty n)) ++ drop n (seven entry empty n) ≡ seven (λ (k : ℕ). change (entry k)) empty n
+  unfolding seven
+  in-use-changed change entry empty zero h = refl
+  in-use-changed change entry empty (suc zero) h = refl
+  in-use-changed change entry empty (suc (suc zero)) h = refl
+  in-use-changed change entry empty (suc (suc (suc zero))) h = refl
+  in-use-changed change entry empty (suc (suc (suc (suc zero)))) h = refl
+  in-use-changed change entry empty (suc (suc (suc (suc (suc zero))))) h = refl
+  in-use-changed change entry empty (suc (suc (suc (suc (suc (suc zero)))))) h = refl
+  in-use-changed change entry empty (suc (suc (suc (suc (suc (suc (suc zero))))))) h = refl
+  in-use-changed change entry empty (suc (suc (suc (suc (suc (suc (suc (suc n)))))))) h = absurd (omega arith)
 
   -- and of an array whose unused places were made empty
   span-list : (l : List A) (empty : A) (i m : ℕ) → i + m ≤ length l → span (λ (k : ℕ). getD l k empty) i m ≡ take m (drop i l)

@@ -21,7 +21,7 @@ use octets::put;
 use octets::u8_at;
 use octets::u16_at;
 
-// Which way a slot is used.
+// Which way a slot is used by the device that it is for.
 pub enum Direction {
     Receive,
     Transmit,
@@ -34,8 +34,8 @@ impl Direction {
         ensures { λ r. ⌜ r ≤ 1 ⌝ }
     {
         match self {
-            Direction::Receive => 0,
-            Direction::Transmit => 1,
+            Direction::Receive => 1,
+            Direction::Transmit => 0,
         }
     }
 
