@@ -1,7 +1,7 @@
 //! Equal, listed or unlisted: what documents 01 and 02 say of a difference.
 
 use oracle_format::text::{bytes_of_hex, hex};
-use oracle_format::{asks_with_nothing_behind, blot_kept_length, kept_length_place};
+use oracle_format::{self as format, asks_with_nothing_behind, blot_kept_length, kept_length_place};
 use std::collections::BTreeMap;
 
 #[derive(PartialEq)]
@@ -50,9 +50,23 @@ pub struct Table {
     commands: u64,
     equal: u64,
     not_had: u64,
-    kept_lengths: u64,
+    looked_at: LookedAt,
     listed: BTreeMap<String, Class>,
     unlisted: BTreeMap<String, Class>,
+}
+
+/// How many kept lengths were held beside the model's, and how many directions of listed slots beside the Rust's, its names exchanged.
+#[derive(Clone, Copy, Default)]
+pub struct LookedAt {
+    pub kept_lengths: u64,
+    pub directions: u64,
+}
+
+impl std::ops::AddAssign for LookedAt {
+    fn add_assign(&mut self, other: LookedAt) {
+        self.kept_lengths += other.kept_lengths;
+        self.directions += other.directions;
+    }
 }
 
 const BETWEEN: &str = "Rust against model";
@@ -113,6 +127,29 @@ pub fn without_kept_length(command: &[u8], answer: &[u8]) -> Vec<u8> {
     answer
 }
 
+/// A command as the Rust is asked it: with the names of listed slots' directions exchanged in a record that is given.
+pub fn named_by_rust(command: &[u8]) -> Vec<u8> {
+    let (start, digits) = command.split_at(2);
+    let Some(mut bytes) = bytes_of_hex(digits) else { return command.to_vec() };
+    format::exchange_in_command(command[0], &mut bytes);
+    let mut line = start.to_vec();
+    hex(&bytes, &mut line);
+    line
+}
+
+/// The Rust's answer with those names exchanged in the record that it tells.
+pub fn named_here(command: &[u8], answer: &[u8]) -> Vec<u8> {
+    let mut answer = answer.to_vec();
+    format::exchange_in_answer(command[0], &mut answer);
+    answer
+}
+
+/// How many slots are listed in the record that was read or written with this answer.
+pub fn listed_slots(command: &[u8], answer: &[u8]) -> u64 {
+    let bytes = bytes_of_hex(&command[2..]).unwrap_or_default();
+    format::listed_slots(command[0], &bytes, answer).map_or(0, u64::from)
+}
+
 /// Whether the length that a read header keeps is the length that reading told; none where no header was read.
 pub fn keeps_told_length(command: &[u8], answer: &[u8]) -> Option<bool> {
     let kept = kept_length_place(command[0], answer)?;
@@ -123,6 +160,7 @@ pub fn keeps_told_length(command: &[u8], answer: &[u8]) -> Option<bool> {
 /// What was answered to a command, raw but for the last.
 pub struct Answers<'a> {
     pub command: &'a [u8],
+    /// With the names of listed slots' directions exchanged.
     pub rust: &'a [u8],
     pub model: &'a [u8],
     /// The Rust's answer to a GTS field alone, with a byte behind it where there is none.
@@ -135,9 +173,9 @@ impl Table {
         self.equal += count;
     }
 
-    /// So many of those equal have a kept length.
-    pub fn kept_lengths(&mut self, count: u64) {
-        self.kept_lengths += count;
+    /// Of those equal, so much was looked at by itself.
+    pub fn looked_at(&mut self, counts: LookedAt) {
+        self.looked_at += counts;
     }
 
     /// The Rust's answer against the model's, whose kept length of a read header is held beside the length that both tell.
@@ -146,7 +184,8 @@ impl Table {
         self.commands += 1;
         let example = || Some(Example { command: command.to_vec(), rust: rust.to_vec(), model: model.to_vec(), program: None });
         let keeps = keeps_told_length(command, model);
-        self.kept_lengths += keeps.is_some() as u64;
+        let directions = listed_slots(command, rust_with_more.unwrap_or(rust));
+        self.looked_at += LookedAt { kept_lengths: keeps.is_some() as u64, directions };
         let model = &without_kept_length(command, model)[..];
         if !kept(command, model) || keeps == Some(false) || model == b"panic" || model == b"bad" {
             self.unlisted.entry(format!("model alone, kind {}", command[0] as char)).or_default().add(1, example());
@@ -219,7 +258,7 @@ impl Table {
         self.commands += other.commands;
         self.equal += other.equal;
         self.not_had += other.not_had;
-        self.kept_lengths += other.kept_lengths;
+        self.looked_at += other.looked_at;
         for (mine, theirs) in [(&mut self.listed, other.listed), (&mut self.unlisted, other.unlisted)] {
             for (name, class) in theirs {
                 mine.entry(name).or_default().add(class.count, class.smallest);
@@ -245,10 +284,12 @@ impl Table {
         );
     }
 
-    /// Prints how many kept lengths were compared, and the classes with the smallest command of each.
+    /// Prints how many kept lengths and directions were compared, and the classes with the smallest command of each.
     pub fn tell(&self, with_program: bool) -> Verdict {
         let program = if with_program { ", the program's beside the model's" } else { "" };
-        println!("kept lengths of {} read headers: the model's beside the Rust's lengths{program}", self.kept_lengths);
+        let LookedAt { kept_lengths, directions } = self.looked_at;
+        println!("kept lengths of {kept_lengths} read headers: the model's beside the Rust's lengths{program}");
+        println!("directions of {directions} listed slots: beside the Rust's, with its names exchanged");
         for (title, classes) in [("listed", &self.listed), ("UNLISTED", &self.unlisted)] {
             for (name, class) in classes {
                 println!("{title}: {name}: {}", class.count);

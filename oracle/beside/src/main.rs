@@ -4,7 +4,10 @@ mod compare;
 mod sides;
 mod suites;
 
-use compare::{keeps_told_length, nothing_behind, without_kept_length, Answers, Table, Verdict};
+use compare::{
+    keeps_told_length, listed_slots, named_by_rust, named_here, nothing_behind, without_kept_length, Answers, LookedAt, Table,
+    Verdict,
+};
 use oracle_format::generator::{Run, FAMILIES};
 use oracle_format::text::{bytes_of_hex, fnv, hex, FNV_START};
 use sides::Program;
@@ -132,7 +135,8 @@ struct Sides {
 impl Sides {
     /// Compares one batch of single commands.
     fn compare(&mut self, lines: &[Vec<u8>], table: &mut Table) {
-        let rust = self.rust.ask(lines);
+        let asked: Vec<_> = lines.iter().map(|line| named_by_rust(line)).collect();
+        let rust: Vec<_> = lines.iter().zip(self.rust.ask(&asked)).map(|(line, answer)| named_here(line, &answer)).collect();
         let model = self.model.ask(lines);
         let program = self.program.as_mut().map(|program| program.ask(lines));
         let alone: Vec<_> = lines.iter().filter(|line| nothing_behind(line)).cloned().collect();
@@ -147,9 +151,9 @@ impl Sides {
         }
     }
 
-    /// For each thousand how many kept lengths agree, if the programs give one digest and all kept lengths do; a program of ours is given the
+    /// For each thousand what was looked at, if the programs give one digest and all kept lengths agree; a program of ours is given the
     /// single commands.
-    fn digests_agree(&mut self, thousands: &[Vec<u8>]) -> Vec<Option<u64>> {
+    fn digests_agree(&mut self, thousands: &[Vec<u8>]) -> Vec<Option<LookedAt>> {
         let lines: Vec<_> = thousands.iter().map(|bytes| line(b'd', bytes)).collect();
         let rust = self.rust_folded.ask(&lines);
         let model = self.model_folded.ask(&lines);
@@ -159,7 +163,7 @@ impl Sides {
                 let ours = self.program.as_mut().map(|program| program.ask(&commands));
                 let given = ours.as_ref().map_or(true, |ours| digest(&commands, ours) == rust[index]);
                 if rust[index] == model[index] && given {
-                    self.kept_lengths_agree(&commands, ours)
+                    self.look_at(&commands, ours)
                 } else {
                     None
                 }
@@ -167,16 +171,22 @@ impl Sides {
             .collect()
     }
 
-    /// How many headers are read by these commands, if the model keeps the length of each and the program's answers are the model's: a digest
-    /// holds no kept length.
-    fn kept_lengths_agree(&mut self, commands: &[Vec<u8>], ours: Option<Vec<Vec<u8>>>) -> Option<u64> {
-        if commands.iter().all(|command| command[0] != b'h') {
-            return Some(0);
+    /// What these commands have of kept lengths and listed slots, if the model keeps the length of each header and the program's answers are the
+    /// model's: a digest holds no kept length.
+    fn look_at(&mut self, commands: &[Vec<u8>], ours: Option<Vec<Vec<u8>>>) -> Option<LookedAt> {
+        if commands.iter().all(|command| !b"hgbGB".contains(&command[0])) {
+            return Some(LookedAt::default());
         }
         let model = self.model_folded.ask(commands);
-        let kept = commands.iter().zip(&model).filter_map(|(command, answer)| keeps_told_length(command, answer));
+        let answered = || commands.iter().zip(&model);
+        let kept = answered().filter_map(|(command, answer)| keeps_told_length(command, answer));
         let (right, wrong): (Vec<bool>, Vec<bool>) = kept.partition(|right| *right);
-        (wrong.is_empty() && ours.map_or(true, |ours| ours == model)).then(|| right.len() as u64)
+        let directions = answered()
+            .filter(|(command, _)| !nothing_behind(command))
+            .map(|(command, answer)| listed_slots(command, answer))
+            .sum();
+        let counts = LookedAt { kept_lengths: right.len() as u64, directions };
+        (wrong.is_empty() && ours.map_or(true, |ours| ours == model)).then(|| counts)
     }
 
     /// A smaller command with a difference of the same sort, as long as one is found. The model knows what a command is.
@@ -227,8 +237,8 @@ fn run(rust: &str, model: &str, thousands: u64, program: Option<&str>) {
             let thousands: Vec<_> = batch.iter().map(|number| thousand(family, *number)).collect();
             for (agreed, number) in sides.digests_agree(&thousands).into_iter().zip(batch) {
                 let single = single(&thousand(family, *number));
-                if let Some(kept_lengths) = agreed {
-                    table.kept_lengths(kept_lengths);
+                if let Some(counts) = agreed {
+                    table.looked_at(counts);
                     // A GTS field with nothing behind it has a digest only with a byte there: it is looked at by itself.
                     let alone: Vec<_> = single.into_iter().filter(|line| nothing_behind(line)).collect();
                     table.equal(1000 - alone.len() as u64);

@@ -445,12 +445,12 @@ fn order(half: u8) -> [u8; 2] {
     }
 }
 
-/// Transmit where the pattern's bit of this index is set.
+/// The direction that the pattern's bit of this index means, set Receive.
 fn direction(pattern: u8, index: usize) -> u8 {
     if pattern >> index & 1 == 1 {
-        TRANSMIT
-    } else {
         RECEIVE
+    } else {
+        TRANSMIT
     }
 }
 

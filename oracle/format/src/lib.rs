@@ -68,6 +68,9 @@ pub trait Side {
     type Pending: Part;
     type Beacon: Part;
 
+    /// Whether it names the directions of listed slots the other way round than document 02's request 6: a set bit Transmit.
+    const EXCHANGED: bool = false;
+
     /// `get_octet_size` of a header.
     fn header_size(header: &<Self::Header as Part>::Record) -> usize;
 
@@ -133,8 +136,8 @@ pub fn asks_with_nothing_behind(bytes: &[u8]) -> bool {
     ask(bytes).map_or(false, |(ask, input)| nothing_behind(input, ask.place))
 }
 
-/// How a dump is printed. Folded: 5 as 4, no buffer after a refusal, and what the Rust refuses for nothing behind it with a byte there. Raw:
-/// all as it is.
+/// How a dump is printed. Folded: 5 as 4, no buffer after a refusal, what the Rust refuses for nothing behind it with a byte there, and the
+/// Rust's names of listed slots' directions exchanged. Raw: all as it is.
 #[derive(Clone, Copy, PartialEq)]
 pub enum Form {
     Folded,
@@ -248,21 +251,67 @@ fn put_bits(answer: Result<u8, Number>, form: Form, out: &mut Vec<u8>) {
     }
 }
 
+/// Where an answer to a reading has the digits of the record, if they are those of so many bytes; not of a security part, whose size stands
+/// before it.
+fn record_place(answer: &[u8], bytes: usize) -> Option<Range<usize>> {
+    let mut fields = answer.split(|byte| *byte == b'\t');
+    let start = fields.next()?.len() + 1 + fields.next()?.len() + 1;
+    (fields.next()?.len() == 2 * bytes).then(|| start..start + 2 * bytes)
+}
+
 /// Where an answer has the two digits of a kept length: at the end of the record of a header that was read.
 pub fn kept_length_place(kind: u8, answer: &[u8]) -> Option<Range<usize>> {
-    let mut fields = answer.split(|byte| *byte == b'\t');
-    let (number, length, record) = (fields.next()?, fields.next()?, fields.next()?);
-    if kind != b'h' || record.len() != 2 * layout::HEADER {
+    if kind != b'h' {
         return None;
     }
-    let end = number.len() + 1 + length.len() + 1 + record.len();
-    Some(end - 2..end)
+    record_place(answer, layout::HEADER).map(|place| place.end - 2..place.end)
 }
 
 /// Makes the kept length in an answer 0.
 pub fn blot_kept_length(kind: u8, answer: &mut [u8]) {
     if let Some(place) = kept_length_place(kind, answer) {
         answer[place].fill(b'0');
+    }
+}
+
+/// The bytes of a record of this kind, and where among them GTS information begins, if it has some.
+fn slots_in(kind: u8) -> Option<(usize, usize)> {
+    match kind.to_ascii_lowercase() {
+        b'g' => Some((layout::SLOTS, 0)),
+        b'b' => Some((layout::BEACON, layout::SUPERFRAME)),
+        _ => None,
+    }
+}
+
+/// How many slots are listed in the record that was read with this answer, or that is given and was written with it.
+pub fn listed_slots(kind: u8, bytes: &[u8], answer: &[u8]) -> Option<u8> {
+    let (size, place) = slots_in(kind)?;
+    if kind.is_ascii_lowercase() {
+        Some(bytes_of_hex(&answer[record_place(answer, size)?])?[place + 1])
+    } else {
+        answer.strip_prefix(b"0\t").and_then(|_| bytes.get(PREFIX + place + 1).copied())
+    }
+}
+
+/// Exchanges the names of listed slots' directions in the record that a command gives.
+pub fn exchange_in_command(kind: u8, bytes: &mut [u8]) {
+    if let (true, Some((size, place))) = (kind.is_ascii_uppercase(), slots_in(kind)) {
+        if bytes.len() == PREFIX + size {
+            layout::exchange_directions(&mut bytes[PREFIX + place..][..layout::SLOTS]);
+        }
+    }
+}
+
+/// Exchanges them in the record that an answer tells.
+pub fn exchange_in_answer(kind: u8, answer: &mut [u8]) {
+    if let (true, Some((size, place))) = (kind.is_ascii_lowercase(), slots_in(kind)) {
+        if let Some(digits) = record_place(answer, size) {
+            let mut record = bytes_of_hex(&answer[digits.clone()]).unwrap_or_default();
+            layout::exchange_directions(&mut record[place..][..layout::SLOTS]);
+            let mut named = Vec::new();
+            hex(&record, &mut named);
+            answer[digits].copy_from_slice(&named);
+        }
     }
 }
 
@@ -352,7 +401,16 @@ fn dispatch<S: Side>(kind: u8, bytes: &[u8], form: Form, out: &mut Vec<u8>) -> b
 /// The dump of a command whose bytes are at hand, without a line feed.
 pub fn answer_bytes<S: Side>(kind: u8, bytes: &[u8], form: Form, out: &mut Vec<u8>) {
     let start = out.len();
-    let told = catch_unwind(AssertUnwindSafe(|| dispatch::<S>(kind, bytes, form, out)));
+    let told = catch_unwind(AssertUnwindSafe(|| {
+        if !S::EXCHANGED || form == Form::Raw {
+            return dispatch::<S>(kind, bytes, form, out);
+        }
+        let mut named = bytes.to_vec();
+        exchange_in_command(kind, &mut named);
+        let told = dispatch::<S>(kind, &named, form, out);
+        exchange_in_answer(kind, &mut out[start..]);
+        told
+    }));
     let word: &[u8] = match told {
         Ok(true) => return,
         Ok(false) => b"bad",
@@ -438,6 +496,18 @@ pub mod layout {
 
     /// An entry of no use: broadcast address, start 0, length 0, Receive.
     pub const EMPTY_DESCRIPTOR: [u8; DESCRIPTOR] = [0xff, 0xff, 0, 0, RECEIVE];
+
+    /// Exchanges the names of the listed slots' directions in spelled GTS information; those of unused places stay.
+    pub fn exchange_directions(slots: &mut [u8]) {
+        let count = slots[1] as usize;
+        for entry in slots[2..].chunks_mut(DESCRIPTOR).take(count) {
+            entry[4] = match entry[4] {
+                RECEIVE => TRANSMIT,
+                TRANSMIT => RECEIVE,
+                other => other,
+            };
+        }
+    }
 
     fn flag(byte: u8) -> bool {
         byte <= 1

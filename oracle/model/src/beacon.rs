@@ -1,4 +1,4 @@
-//! Document 01, "Beacon layout".
+//! Document 01, "Beacon layout", as requests 2 and 6 of document 02 change it.
 
 use crate::bytes::{from, number, put, store, take};
 use oracle_format::layout::{DESCRIPTOR, RECEIVE, SLOTS, SUPERFRAME, TRANSMIT};
@@ -120,12 +120,12 @@ pub struct Descriptor {
     address: u64,
     start: u8,
     length: u8,
-    transmit: bool,
+    receive: bool,
 }
 
 impl Descriptor {
     /// An unused place.
-    pub const UNUSED: Descriptor = Descriptor { address: 0xffff, start: 0, length: 0, transmit: false };
+    pub const UNUSED: Descriptor = Descriptor { address: 0xffff, start: 0, length: 0, receive: true };
 }
 
 impl Encoded for Descriptor {
@@ -145,23 +145,18 @@ impl Part for Descriptor {
     /// Read alone it is Receive: the direction byte belongs to the list.
     fn read(bytes: &[u8], place: usize) -> Result<(Descriptor, usize), Number> {
         let part = take(bytes, place, 3)?;
-        let record = Descriptor { address: number(&part[..2]), start: part[2] % 16, length: part[2] / 16, transmit: false };
+        let record = Descriptor { address: number(&part[..2]), start: part[2] % 16, length: part[2] / 16, receive: true };
         Ok((record, 3))
     }
 
     fn spell(record: &Descriptor, out: &mut Vec<u8>) {
         put(record.address, 2, out);
-        let direction = if record.transmit { TRANSMIT } else { RECEIVE };
+        let direction = if record.receive { RECEIVE } else { TRANSMIT };
         out.extend_from_slice(&[record.start, record.length, direction]);
     }
 
     fn build(spelled: &[u8]) -> Option<Descriptor> {
-        Some(Descriptor {
-            address: number(&spelled[..2]),
-            start: spelled[2],
-            length: spelled[3],
-            transmit: spelled[4] == TRANSMIT,
-        })
+        Some(Descriptor { address: number(&spelled[..2]), start: spelled[2], length: spelled[3], receive: spelled[4] == RECEIVE })
     }
 
     fn write(record: Descriptor, _: Option<u32>, buffer: &mut [u8], place: usize) -> Option<Result<usize, Number>> {
@@ -190,7 +185,7 @@ impl Encoded for Slots {
         let used = &self.places[..self.count as usize];
         out.push(self.count + 128 * self.permit as u8);
         if 0 < self.count {
-            out.push(used.iter().rev().fold(0, |bits, slot| 2 * bits + slot.transmit as u8));
+            out.push(used.iter().rev().fold(0, |bits, slot| 2 * bits + slot.receive as u8));
         }
         for slot in used {
             slot.bytes(out);
@@ -201,7 +196,7 @@ impl Encoded for Slots {
 impl Part for Slots {
     type Record = Slots;
 
-    /// For n > 0, 1+3n bytes are demanded after the header and consumed (document 02, request 2).
+    /// For n > 0, 1+3n bytes are demanded after the header and consumed (request 2). A set direction bit is Receive (request 6).
     fn read(bytes: &[u8], place: usize) -> Result<(Slots, usize), Number> {
         let header = take(bytes, place, 1)?[0];
         let mut record = Slots { permit: bit(header, 7), count: header % 8, ..Slots::EMPTY };
@@ -212,7 +207,7 @@ impl Part for Slots {
         let part = take(bytes, place, 1 + 1 + 3 * n)?;
         for k in 0..n {
             record.places[k] = Descriptor::read(part, 2 + 3 * k)?.0;
-            record.places[k].transmit = bit(part[1], k as u32);
+            record.places[k].receive = bit(part[1], k as u32);
         }
         Ok((record, part.len()))
     }

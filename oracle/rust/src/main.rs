@@ -537,6 +537,8 @@ impl Side for Rust {
     type Pending = PendingPart;
     type Beacon = BeaconPart;
 
+    const EXCHANGED: bool = true;
+
     fn header_size(header: &Header) -> usize {
         header.get_octet_size()
     }
