@@ -26,7 +26,7 @@ descriptorIn s at direction =
     let slot = number s (at + 2) 1 in
     descriptorOf (short (number s at 2)) (bits slot 0 4) (bits slot 4 4) direction
 
--- and what reading it there alone answers
+-- and what reading it there alone answers: Receive, as in an unused place
 unfoldable pub readDescriptor : List ℕ → ℕ → DescriptorRead
 readDescriptor s at =
     first ((ends s at 3, record { outcome = refused 1; slot = emptyDescriptor }) ∷ [])

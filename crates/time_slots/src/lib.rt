@@ -97,7 +97,7 @@ impl GuaranteedTimeSlotDescriptor {
     }
 
     // Reads the three bytes at a place: refusal 1 where they are not there. Read alone it is Receive, as in an unused
-    // place.
+    // place: its bit stands in another byte.
     pub fn read(s: &[u8], at: usize) -> DescriptorRead
         ensures { λ r. ⌜ r ≡ readDescriptor (now (s .entry)) at ⌝ }
     {
