@@ -1,10 +1,10 @@
--- The two senses of a direction bit beside each other. In the crate's sense bytes are read as the record with the names of its listed slots'
--- directions exchanged, a record is written as that with the names exchanged is here, and so what is read and written again gives the same
--- bytes in both.
+-- The two senses of a direction bit beside each other. In the crate's sense bytes are read as the record with the names of its listed
+-- slots' directions exchanged, a record is written as that with the names exchanged is here, and so what is read and written again gives
+-- the same bytes in both.
 -- Assumes nothing.
 use Prim.Native.Nat.{ℕ, zero, suc, _+_, _≤_, _<_}
 use native.Mathlib.Omega.{arith}
-use mathlib.Core.List.{List, [], _∷_, _++_, map, flatMap}
+use mathlib.Core.List.{List, [], _∷_, map, flatMap}
 use mathlib.Core.Path.{_≡_, refl, sym, ap, _∙_}
 use lib.ListN.{take}
 use Rattle.octets.specs.Bits.{bits}

@@ -1,7 +1,7 @@
 -- The two senses of a direction bit, side by side. Document 02, request 6: "a set bit is Receive, a clear bit Transmit,
 -- unused places stay Receive .. Bytes written from a read beacon don't change; records .. do". The crate's sense,
--- document 01's "set is Transmit, as in `beacon.rs`", is stated here, to be held beside `directionBit`: no reader and no
--- writer has it.
+-- document 01's "set is Transmit, as in `beacon.rs`", is stated here, to be held beside `directionBit`: no reader and
+-- no writer has it.
 use Rattle.octets.specs.Words.{ℕ, _+_, _*_, cond, List, [], _∷_, _++_, map, flatMap, eqb, take, drop}
 use Rattle.octets.specs.declared.{Outcome.Outcome, ValueWritten.ValueWritten}
 use Rattle.octets.specs.Bits.{bits, bit}
