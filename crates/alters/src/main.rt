@@ -4,13 +4,13 @@ mod telling;
 
 ghost use Rattle.octets.specs.Words.{◌+◌, ◌-◌, ◌*◌, ◌≤◌, ◌<◌, ◌≡◌, length, take, drop};
 ghost use Rattle.octets.specs.Buffer.{laid};
-ghost use Rattle.hex.specs.Hex.{worths};
+ghost use Rattle.hexadecimal.specs.Hex.{worths};
 ghost use Rattle.line_cutter.specs.Answers.{Onward, answers, fed_to};
 ghost use Rattle.line_cutter.specs.Line.{kept_most};
 ghost use Rattle.line_cutter.specs.Lines.{last};
 ghost use Rattle.alters.specs.Answer.{answer};
 
-use hex::values;
+use hexadecimal::values;
 use line_cutter::{KEPT_MOST, cut};
 use line_io::{ENDED, FAILED, MORE};
 use telling::put_answer;

@@ -1,6 +1,6 @@
 // The answer to one line, stored into a buffer: as much of it as has room.
 ghost use Rattle.octets.specs.Words.{◌≤◌, ◌∷◌, ◌≡◌, length};
-ghost use Rattle.hex.specs.Hex.{worths};
+ghost use Rattle.hexadecimal.specs.Hex.{worths};
 ghost use Rattle.line_cutter.specs.Line.{tab_byte};
 ghost use Rattle.labelled.specs.Put.{Put};
 ghost use Rattle.alters.specs.Answer.{told, column, outcome_told, said, answer};

@@ -104,7 +104,7 @@ fn put_command(kind: u8, bytes: &[u8], out: &mut [u8], at: usize) -> usize {
 // Adds the answer to a command line, given without its line feed, and a line feed.
 pub(crate) fn put_answer(line: &[u8], out: &mut [u8], at: usize) -> usize {
     let mut bytes = [0u8; MOST_BYTES];
-    let n = hex::decode(line, 2, &mut bytes);
+    let n = hexadecimal::decode(line, 2, &mut bytes);
     let next = put_command(u8_at(line, 0), first(&bytes, n), out, at);
     put(b'\n', out, next)
 }

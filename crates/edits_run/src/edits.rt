@@ -2,7 +2,7 @@
 // highest digit first.
 use address::Address;
 use header::{Header, HeaderEdited};
-use hex::decode_by;
+use hexadecimal::decode_by;
 use identifiers::{ExtendedAddress, PanId, ShortAddress};
 use octets::{behind, u8_at};
 

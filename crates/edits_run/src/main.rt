@@ -4,7 +4,7 @@
 mod edits;
 mod telling;
 
-use hex::values;
+use hexadecimal::values;
 use line_by_line::{CHUNK, Turn, next_line};
 use line_cutter::KEPT_MOST;
 use telling::put_answer;

@@ -2,7 +2,7 @@
 // store takes as much as has room, so that nothing is asked of a caller.
 use crate::edits::{Edit, EditFound, find_edit};
 use header::{Header, HeaderRead};
-use hex::decode_by;
+use hexadecimal::decode_by;
 use labelled::{FRAME_MOST, put_bad, put_byte, put_bytes, put_column, put_decimal};
 use line_cutter::{LINE_MOST, find};
 use octets::{behind, bit_of, copy, least, u8_at};
@@ -163,7 +163,7 @@ fn put_columns(
 }
 
 // Stores the answer to a line, given without its line feed, by a lent table of what bytes count for in a pair of digits
-// (`hex::values`).
+// (`hexadecimal::values`).
 pub(crate) fn put_answer(line: &[u8], values: &[u16; 256], out: &mut [u8], at: usize) -> usize {
     let tab = find(line, 0, b'\t', b'\t');
     if line.len() > LINE_MOST || tab == line.len() {

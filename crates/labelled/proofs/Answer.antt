@@ -14,8 +14,8 @@ use Rattle.octets.specs.Order.{first}
 use Rattle.octets.proofs.Cases.{cases, holds?}
 use Rattle.line_cutter.specs.Line.{line_most, kept_most, before}
 use Rattle.line_cutter.proofs.Line.{Free, before_free, before_take, before_length, before_stop, before_part_at, free_first}
-use Rattle.hex.specs.Hex.{is_digit, odd, foreign, unhex, decoded, digit}
-use Rattle.hex.proofs.Hex.{foreign_no, unhex_length, unhex_whole, whole_good}
+use Rattle.hexadecimal.specs.Hex.{is_digit, odd, foreign, unhex, decoded, digit}
+use Rattle.hexadecimal.proofs.Hex.{foreign_no, unhex_length, unhex_whole, whole_good}
 use Rattle.labelled.specs.Answer.{tabs, label, digits, bad, labelled}
 
 pub tab_foreign : is_digit 9 ≡ false

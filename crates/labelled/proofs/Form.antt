@@ -14,8 +14,8 @@ use Rattle.octets.specs.Little.{Bytes}
 use Rattle.octets.proofs.Buffer.{laid_none}
 use Rattle.octets.proofs.Cases.{cases, holds?}
 use Rattle.line_cutter.specs.Line.{line_most}
-use Rattle.hex.specs.Hex.{worths, pair_by, unhex_by, decoded_by}
-use Rattle.hex.proofs.Hex.{Decoding, decoding}
+use Rattle.hexadecimal.specs.Hex.{worths, pair_by, unhex_by, decoded_by}
+use Rattle.hexadecimal.proofs.Hex.{Decoding, decoding}
 use Rattle.labelled.specs.declared.Parted.{Parted}
 use Rattle.labelled.specs.Answer.{label, bad, labelled}
 use Rattle.labelled.specs.Parted.{bytes_behind, frame_by, parted}

@@ -3,7 +3,7 @@
 use Rattle.octets.specs.Words.{ℕ, suc, ◌+◌, cond, not, List, [], ◌∷◌, ◌++◌, ltb, eqb, length, drop}
 use Rattle.octets.specs.{Order.first}
 use Rattle.line_cutter.specs.{Line.tab_byte, Line.line_feed, Line.line_most, Line.before}
-use Rattle.hex.specs.{Hex.odd, Hex.foreign, Hex.unhex}
+use Rattle.hexadecimal.specs.{Hex.odd, Hex.foreign, Hex.unhex}
 
 -- how many tabs a line has
 unfoldable pub tabs : List ℕ → ℕ

@@ -2,7 +2,7 @@
 -- too long nothing is looked at.
 use Rattle.octets.specs.Words.{ℕ, ◌+◌, ◌*◌, false, cond, List, [], ltb, eqb, length}
 use Rattle.line_cutter.specs.{Line.line_most}
-use Rattle.hex.specs.{Hex.decoded_by}
+use Rattle.hexadecimal.specs.{Hex.decoded_by}
 use Rattle.labelled.specs.{declared.Parted.Parted, Answer.label}
 
 -- the bytes behind the first tab that have room

@@ -8,7 +8,7 @@ ghost use Rattle.labelled.specs.Hexed.{hex_digit, hex_by, hexed};
 ghost use Rattle.labelled.specs.Parted.{frame_by, parted};
 ghost use Rattle.labelled.specs.Put.{Put};
 
-use hex::decode_by;
+use hexadecimal::decode_by;
 use line_cutter::{LINE_MOST, find};
 use octets::{copy, left};
 
@@ -25,7 +25,7 @@ pub struct Parted {
 }
 
 // Takes a line apart, given without its line feed, by a lent table of what bytes count for in a pair of digits
-// (`hex::values`), and stores the bytes of its frame from the beginning of a buffer on, as many as have room.
+// (`hexadecimal::values`), and stores the bytes of its frame from the beginning of a buffer on, as many as have room.
 pub fn part(line: &[u8], values: &[u16; 256], frame: &mut [u8]) -> Parted
     ensures value { result ≡ parted values.now line.now (length frame.old) }
     ensures frame_after { frame.new

@@ -11,8 +11,8 @@ use Rattle.octets.proofs.Lists.{take_again}
 use Rattle.line_cutter.specs.Answers.{fed_to}
 use Rattle.line_cutter.specs.Line.{line_most, before, is_at}
 use Rattle.line_cutter.proofs.Line.{Free, free_append, free_first, free_second, before_part, there, split_there}
-use Rattle.hex.specs.Hex.{unhex, decoded}
-use Rattle.hex.proofs.Hex.{unhex_take, whole_good}
+use Rattle.hexadecimal.specs.Hex.{unhex, decoded}
+use Rattle.hexadecimal.proofs.Hex.{unhex_take, whole_good}
 use Rattle.lines.specs.Answer.{said, answer}
 use Rattle.octets.specs.Stored.{Stored}
 use Rattle.labelled.proofs.Answer.{feed_foreign, foreign_free, answer_good}

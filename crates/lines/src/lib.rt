@@ -4,13 +4,13 @@ mod one_line;
 
 ghost use Rattle.octets.specs.Words.{◌+◌, ◌-◌, ◌*◌, ◌≤◌, ◌<◌, [], ◌++◌, ◌≡◌, length, take, drop, replicate};
 ghost use Rattle.octets.specs.Stored.{Stored};
-ghost use Rattle.hex.specs.Hex.{worths};
+ghost use Rattle.hexadecimal.specs.Hex.{worths};
 ghost use Rattle.line_cutter.specs.Answers.{Onward, fed_to};
 ghost use Rattle.line_cutter.specs.Line.{kept_most};
 ghost use Rattle.lines.specs.Answer.{answer};
 ghost use Rattle.lines.specs.Chunks.{takes, feeding, ending};
 
-use hex::{decode_by, values};
+use hexadecimal::{decode_by, values};
 use labelled::FRAME_MOST;
 use line_cutter::{KEPT_MOST, LINE_MOST, cut, find, is_at};
 use octets::left;

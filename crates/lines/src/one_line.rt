@@ -1,6 +1,6 @@
 // The answer to one line, stored into a buffer: building blocks of this crate, which ask for room (`requires`).
 ghost use Rattle.octets.specs.Words.{◌+◌, ◌≤◌, ◌<◌, [], ◌∷◌, ◌++◌, ◌≡◌, length};
-ghost use Rattle.hex.specs.Hex.{worths};
+ghost use Rattle.hexadecimal.specs.Hex.{worths};
 ghost use Rattle.line_cutter.specs.Line.{line_feed};
 ghost use Rattle.labelled.specs.Decimal.{decimal};
 ghost use Rattle.lines.specs.Answer.{columns, said, answer};

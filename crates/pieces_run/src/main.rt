@@ -3,7 +3,7 @@
 // it is proved safe, within bounds and ending, and its functions promise nothing else.
 mod telling;
 
-use hex::values;
+use hexadecimal::values;
 use line_by_line::{CHUNK, Turn, next_line};
 use line_cutter::KEPT_MOST;
 use telling::put_answer;

@@ -1,7 +1,7 @@
 // The answer to a line: its pieces are handed to a reader one after the other, then the end is said, and what the calls
 // answer is told. Each store takes as much as has room, so that nothing is asked of a caller.
 use header::Header;
-use hex::decode_by;
+use hexadecimal::decode_by;
 use labelled::{FRAME_MOST, put_bad, put_byte, put_bytes, put_column};
 use line_cutter::{LINE_MOST, find};
 use octets::{Outcome, behind, copy, least, u8_at};
@@ -125,7 +125,7 @@ fn put_calls(calls: Calls, out: &mut [u8], at: usize) -> usize {
 }
 
 // Stores the answer to a line, given without its line feed, by a lent table of what bytes count for in a pair of digits
-// (`hex::values`).
+// (`hexadecimal::values`).
 pub(crate) fn put_answer(line: &[u8], values: &[u16; 256], out: &mut [u8], at: usize) -> usize {
     let tab = find(line, 0, b'\t', b'\t');
     if line.len() > LINE_MOST || tab == line.len() {

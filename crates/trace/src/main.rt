@@ -6,7 +6,7 @@ mod telling;
 
 ghost use Rattle.octets.specs.Words.{◌+◌, ◌-◌, ◌*◌, ◌≤◌, ◌<◌, ◌≡◌, true, [], length, take};
 ghost use Rattle.octets.specs.Stored.{Stored};
-ghost use Rattle.hex.specs.Hex.{worths};
+ghost use Rattle.hexadecimal.specs.Hex.{worths};
 ghost use Rattle.line_cutter.specs.Answers.{Onward};
 ghost use Rattle.line_cutter.specs.Line.{kept_most};
 ghost use Rattle.line_cutter.specs.Lines.{last, run};
@@ -19,7 +19,7 @@ ghost use Rattle.trace.specs.Within.{Within};
 ghost use Rattle.trace.specs.Next.{says_said, Ends, Next};
 
 use counting::{Counts, count};
-use hex::values;
+use hexadecimal::values;
 use labelled::FRAME_MOST;
 use line_cutter::{KEPT_MOST, LINE_MOST, cut, is_at};
 use line_io::{ENDED, FAILED, MORE};

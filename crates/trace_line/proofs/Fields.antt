@@ -15,8 +15,8 @@ use Rattle.octets.proofs.Cases.{cases, holds?, both}
 use Rattle.octets.proofs.Lists.{take_again}
 use Rattle.line_cutter.specs.Line.{line_most, before, is_at}
 use Rattle.line_cutter.proofs.Line.{Free, free_append, free_first, before_free, before_take, there, split_there}
-use Rattle.hex.specs.Hex.{worths, unhex, unhex_by, decoded, decoded_by}
-use Rattle.hex.proofs.Hex.{Decoding, decoding, by_digits, unhex_length, unhex_take, whole_good}
+use Rattle.hexadecimal.specs.Hex.{worths, unhex, unhex_by, decoded, decoded_by}
+use Rattle.hexadecimal.proofs.Hex.{Decoding, decoding, by_digits, unhex_length, unhex_take, whole_good}
 use Rattle.decimal.specs.declared.Decimal.{Decimal}
 use Rattle.decimal.specs.Decimal.{is_numeral, numeric, value_of, is_decimal, numerals, decimal_in}
 use Rattle.decimal.proofs.Numerals.{decimal_numeric, numeral_differs, numeric_parts, numerals_all, numerals_front}

@@ -11,7 +11,7 @@ use Rattle.octets.proofs.Buffer.{laid_none}
 use Rattle.octets.proofs.Cases.{cases, holds?}
 use Rattle.line_cutter.specs.Line.{is_at}
 use Rattle.line_cutter.proofs.Line.{there}
-use Rattle.hex.specs.Hex.{decoded_by}
+use Rattle.hexadecimal.specs.Hex.{decoded_by}
 use Rattle.decimal.specs.declared.Decimal.{Decimal}
 use Rattle.decimal.specs.Decimal.{decimal_in}
 use Rattle.trace_line.specs.Parts.{decimal_field, antenna_end, size_place, bytes_place, has_fields, no_parts, frame_in, parts_in}

@@ -13,8 +13,8 @@ use lib.Seq.{length-take-le, take_all, drop-append-add}
 use Rattle.octets.proofs.Cases.{cases, holds?, neither}
 use Rattle.line_cutter.specs.Line.{line_most, kept_most, is_at}
 use Rattle.line_cutter.proofs.Line.{Free, before_free, before_take, before_stop, before_part_at, free_first, free_second, there, split_there}
-use Rattle.hex.specs.Hex.{odd, foreign, unhex}
-use Rattle.hex.proofs.Hex.{unhex_whole, whole_good}
+use Rattle.hexadecimal.specs.Hex.{odd, foreign, unhex}
+use Rattle.hexadecimal.proofs.Hex.{unhex_whole, whole_good}
 use Rattle.decimal.specs.Decimal.{is_decimal, value_of}
 use Rattle.header.specs.Read.{read_header}
 use Rattle.labelled.specs.Answer.{tabs, label as field, digits as behindField}

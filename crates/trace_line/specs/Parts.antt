@@ -3,7 +3,7 @@
 -- tells whether the line ends there.
 use Rattle.octets.specs.Words.{ℕ, ◌+◌, ◌*◌, Bool, true, false, cond, ◌&&◌, List, [], length, drop}
 use Rattle.line_cutter.specs.Line.{tab_byte, before, is_at}
-use Rattle.hex.specs.{Hex.decoded_by}
+use Rattle.hexadecimal.specs.{Hex.decoded_by}
 use Rattle.decimal.specs.{declared.Decimal.Decimal, Decimal.decimal_in}
 use Rattle.trace_line.specs.{declared.Parts.Parts}
 

@@ -7,7 +7,7 @@ use Rattle.address.specs.declared.OptionalAddress.TheVariants.{Absent, Present}
 use Rattle.header.specs.{declared.HeaderRead.HeaderRead, Record.octet_size, Read.read_header}
 use Rattle.header.specs.declared.HeaderRead.TheVariants.{Read, Refused as RefusedHeader}
 use Rattle.line_cutter.specs.{Line.line_most}
-use Rattle.hex.specs.{Hex.odd, Hex.foreign, Hex.unhex}
+use Rattle.hexadecimal.specs.{Hex.odd, Hex.foreign, Hex.unhex}
 use Rattle.decimal.specs.Decimal.{is_decimal, value_of}
 use Rattle.labelled.specs.Answer.{tabs, label as field, digits as behindField}
 use Rattle.senders.specs.declared.{Sender.Sender}

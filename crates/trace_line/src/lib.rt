@@ -9,7 +9,7 @@ ghost use Rattle.header.specs.Read.{read_header};
 use address::{Address, OptionalAddress};
 use decimal::{Decimal, decimal_at};
 use header::{Header, HeaderRead};
-use hex::decode_by;
+use hexadecimal::decode_by;
 use line_cutter::{find, is_at};
 use senders::Sender;
 
@@ -72,7 +72,7 @@ fn decimal_field(s: &[u8], at: usize) -> Decimal
 }
 
 // Takes a line apart that begins at a place of s, by a lent table of what bytes count for in a pair of digits
-// (`hex::values`), and stores the bytes of its frame from the beginning of a buffer on, as many as have room. The antenna
+// (`hexadecimal::values`), and stores the bytes of its frame from the beginning of a buffer on, as many as have room. The antenna
 // holds neither a tab nor the byte stop.
 pub fn part_at(s: &[u8], at: usize, stop: u8, values: &[u16; 256], frame: &mut [u8]) -> Parts
     ensures value { result ≡ parts_in values.now s.now at stop (length frame.old) }

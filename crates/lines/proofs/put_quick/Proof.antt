@@ -9,7 +9,7 @@ use borrow.Author.Rules.{rules}
 use borrow.Author.Tests.{not-false}
 use lib.ListN.{length, take, drop, length-drop}
 use lib.Seq.{length-take-le}
-use Rattle.hex.proofs.Hex.{Decoding, decoding}
+use Rattle.hexadecimal.proofs.Hex.{Decoding, decoding}
 use Rattle.lines.specs.Answer.{said}
 use Rattle.line_cutter.specs.Line.{is_at}
 use Rattle.line_cutter.proofs.Line.{there}

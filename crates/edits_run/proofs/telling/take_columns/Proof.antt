@@ -6,7 +6,7 @@ use mathlib.Core.Path.{sym}
 use borrow.Author.Rules.{rules}
 use lib.ListN.{drop, length-take}
 use lib.Seq.{length-take-le}
-use Rattle.hex.specs.Hex.{unhex_by}
+use Rattle.hexadecimal.specs.Hex.{unhex_by}
 use Rattle.edits_run.proofs.telling.take_columns.Statement.{statement}
 use Rattle.edits_run.proofs.telling.take_columns.Tie as tie
 

@@ -2,7 +2,7 @@
 -- are left.
 -- Assumes nothing.
 use Rattle.std.proofs.Common.{◌≡◌, ℕ, ◌-◌, ◌≤◌, List, length, drop, sym, arith, length-take, length-take-le, rules}
-use Rattle.hex.specs.Hex.{unhex_by, decoded_by}
+use Rattle.hexadecimal.specs.Hex.{unhex_by, decoded_by}
 use Rattle.pieces_run.proofs.telling.take_pieces.Statement.{statement}
 use Rattle.pieces_run.proofs.telling.take_pieces.Tie as tie
 

@@ -1,4 +1,4 @@
--- `hex::decode` meets its contract: by the table of values the digits are decoded.
+-- `hexadecimal::decode` meets its contract: by the table of values the digits are decoded.
 -- Assumes nothing.
 use Prim.Native.Nat.{ℕ}
 use mathlib.Core.List.{List}
@@ -7,9 +7,9 @@ use borrow.Author.Rules.{rules}
 use lib.ListN.{length}
 use Rattle.octets.specs.Buffer.{laid}
 use Rattle.octets.proofs.Little.{bytes_known}
-use Rattle.hex.proofs.Hex.{by_digits}
-use Rattle.hex.proofs.decode.Statement.{statement}
-use Rattle.hex.proofs.decode.Tie as tie
+use Rattle.hexadecimal.proofs.Hex.{by_digits}
+use Rattle.hexadecimal.proofs.decode.Statement.{statement}
+use Rattle.hexadecimal.proofs.decode.Tie as tie
 
 returns : tie.Need-returns
 returns c =

@@ -1,4 +1,4 @@
--- `hex::values` meets its contract. The invariant: the table has what each byte before the one at hand counts for.
+-- `hexadecimal::values` meets its contract. The invariant: the table has what each byte before the one at hand counts for.
 -- Assumes nothing.
 use Prim.Native.Nat.{ℕ, ◌+◌, ◌-◌, ◌≤◌, ◌<◌}
 use native.Mathlib.Numerals.{add-one}
@@ -8,9 +8,9 @@ use mathlib.Core.Path.{◌≡◌, refl, sym, ap, ◌∙◌}
 use borrow.Author.Rules.{rules}
 use lib.ListN.{length, set, take, length-set, length-replicate}
 use lib.Seq.{take_all, take-suc-set}
-use Rattle.hex.specs.Hex.{worth, worths}
-use Rattle.hex.proofs.values.Statement.{statement}
-use Rattle.hex.proofs.values.Tie as tie
+use Rattle.hexadecimal.specs.Hex.{worth, worths}
+use Rattle.hexadecimal.proofs.values.Statement.{statement}
+use Rattle.hexadecimal.proofs.values.Tie as tie
 
 none : [] ≡ worths 0
 unfolding worths

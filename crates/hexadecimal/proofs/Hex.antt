@@ -15,7 +15,7 @@ use Rattle.octets.specs.Little.{Bytes}
 use Rattle.octets.proofs.Cases.{cases, holds?}
 use Rattle.octets.proofs.Little.{bytes_drop}
 use Rattle.octets.proofs.Stored.{front}
-use Rattle.hex.specs.Hex.{digit, is_digit, worth, worths, odd, foreign, unhex, pair_by, unhex_by, decoded, decoded_by}
+use Rattle.hexadecimal.specs.Hex.{digit, is_digit, worth, worths, odd, foreign, unhex, pair_by, unhex_by, decoded, decoded_by}
 
 -- two elements and what follows them
 two : (s : List ℕ) (i : ℕ) → i + 1 < length s → drop i s ≡ get_or s i 0 ∷ get_or s (i + 1) 0 ∷ drop (i + 2) s

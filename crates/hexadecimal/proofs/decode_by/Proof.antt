@@ -1,4 +1,4 @@
--- `hex::decode_by` meets its contract. The invariant: what is left to decode, stored from where the loop stands, gives what is wanted.
+-- `hexadecimal::decode_by` meets its contract. The invariant: what is left to decode, stored from where the loop stands, gives what is wanted.
 -- Assumes nothing.
 use Prim.Native.Nat.{ℕ, ◌+◌, ◌-◌, ◌*◌, ◌≤◌, ◌<◌}
 use native.Mathlib.Omega.{arith}
@@ -8,10 +8,10 @@ use borrow.Author.Rules.{rules}
 use lib.ListN.{length, get_or, length-set}
 use Rattle.octets.specs.Buffer.{laid}
 use Rattle.octets.proofs.Buffer.{laid_none, laid_cons}
-use Rattle.hex.specs.Hex.{decoded_by}
-use Rattle.hex.proofs.Hex.{by_other, rest, rest_all, rest_pair, rest_none, rest_end}
-use Rattle.hex.proofs.decode_by.Statement.{statement}
-use Rattle.hex.proofs.decode_by.Tie as tie
+use Rattle.hexadecimal.specs.Hex.{decoded_by}
+use Rattle.hexadecimal.proofs.Hex.{by_other, rest, rest_all, rest_pair, rest_none, rest_end}
+use Rattle.hexadecimal.proofs.decode_by.Statement.{statement}
+use Rattle.hexadecimal.proofs.decode_by.Tie as tie
 
 abbrev invariant_loop : tie.invariant_loop
 invariant_loop s at values out₀ end n₀ out n =

@@ -1,4 +1,4 @@
--- `hex::value` meets its contract: each listed byte has its value, and that no other byte is a digit is a test at each of 256, which is
+-- `hexadecimal::value` meets its contract: each listed byte has its value, and that no other byte is a digit is a test at each of 256, which is
 -- computed.
 -- Assumes nothing.
 use Prim.Native.Nat.{ℕ, ◌<◌}
@@ -9,9 +9,9 @@ use mathlib.Core.Path.{◌≡◌, refl, sym, ap, ◌∙◌}
 use borrow.Author.Tests.{ne_eqb}
 use lib.Dec.{eqb}
 use Rattle.octets.proofs.Each.{same}
-use Rattle.hex.specs.Hex.{digit, worth}
-use Rattle.hex.proofs.value.Statement.{statement}
-use Rattle.hex.proofs.value.Tie as tie
+use Rattle.hexadecimal.specs.Hex.{digit, worth}
+use Rattle.hexadecimal.proofs.value.Statement.{statement}
+use Rattle.hexadecimal.proofs.value.Tie as tie
 
 listed : List ℕ → ℕ → Bool
 listed [] b = false
