@@ -1,6 +1,8 @@
 // An address with its PAN id, which may be absent: its mode, its length and its bytes, with the PAN id in the frame
 // (own) or shared. Bytes past the end of a slice count as 0 in `address_at` and are dropped by `put_address`: the
 // header's reader and writer measure first.
+#![tactic(auto)]
+
 ghost use Rattle.octets.specs.Words.{◌+◌, ◌-◌, ◌≤◌, min, ◌++◌, ◌≡◌, length};
 ghost use Rattle.octets.specs.Buffer.{laid};
 ghost use Rattle.octets.specs.Little.{split};
@@ -12,13 +14,13 @@ use frame_control::AddressMode;
 use identifiers::{ExtendedAddress, PanId, ShortAddress};
 use octets::{behind, put, u16_at, u64_at};
 
-#[derive(Drop)]
+#[derive(Clone, Copy)]
 pub enum Address {
     Short(PanId, ShortAddress),
     Extended(PanId, ExtendedAddress),
 }
 
-#[derive(Drop)]
+#[derive(Clone, Copy)]
 pub enum OptionalAddress {
     Absent,
     Present(Address),

@@ -1,5 +1,7 @@
 // The two addresses of a header, destination and source, under compression or not: which PAN ids stand in a frame,
 // where the addresses end, their bytes, and what compression asks of them.
+#![tactic(auto)]
+
 ghost use Rattle.octets.specs.Words.{◌+◌, ◌-◌, ◌≤◌, min, ◌≡◌, length};
 ghost use Rattle.octets.specs.Buffer.{laid};
 ghost use Rattle.address_pair.specs.Pair.{pair_end, pair_bytes, both_present, pair_lacks, pair_shares};

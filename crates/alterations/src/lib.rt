@@ -1,6 +1,8 @@
 // Every bit that rewriting alters in a given frame, told before it is written: the frame is measured, no record is made
 // and no byte is copied. A frame is rewritten as a bridge does it, the header and, in an unsecured frame of type 0, the
 // beacon behind it.
+#![tactic(auto)]
+
 ghost use Rattle.octets.specs.Words.{◌+◌, ◌≤◌, ◌<◌, false, [], ◌∷◌, ◌≡◌, length, get_or};
 ghost use Rattle.octets.specs.Bits.{bit};
 ghost use Rattle.alterations.specs.Listed.{header_bits, direction_bits, beacon_bits, holds_beacon};
@@ -15,7 +17,7 @@ use octets::{Outcome, u8_at, u16_at};
 // The answer of rewriting a frame, and the bits that it alters: of each of the first count entries, the place of a byte
 // in the frame and the mask of its bits that go from 1 to 0, in the order of the bytes. Entries behind these are 0;
 // where rewriting is refused, all are.
-#[derive(Drop)]
+#[derive(Clone, Copy)]
 pub struct Alterations {
     pub outcome: Outcome,
     pub count: usize,

@@ -1,1 +1,2 @@
 // Theorems about the bits that rewriting alters; no code.
+#![tactic(auto)]

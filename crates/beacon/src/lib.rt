@@ -1,5 +1,7 @@
 // A beacon's content: superframe specification, GTS information and pending addresses, side by side. No public function
 // asks anything; writing measures before it calls those that do (`requires`).
+#![tactic(auto)]
+
 ghost use Rattle.octets.specs.Words.{◌+◌, ◌-◌, ◌≤◌, false, ◌≡◌, length};
 ghost use Rattle.octets.specs.Buffer.{laid, after};
 ghost use Rattle.octets.specs.Value.{value_outcome};
@@ -12,7 +14,7 @@ use superframe::{SuperframeRead, SuperframeSpecification};
 use time_slots::{GuaranteedTimeSlotInformation, TimeSlotsRead};
 
 // The three parts.
-#[derive(Drop)]
+#[derive(Clone, Copy)]
 pub struct Beacon {
     pub superframe_spec: SuperframeSpecification,
     pub guaranteed_time_slot_info: GuaranteedTimeSlotInformation,
@@ -20,7 +22,7 @@ pub struct Beacon {
 }
 
 // What reading a beacon answers; refused, with the empty one.
-#[derive(Drop)]
+#[derive(Clone, Copy)]
 pub struct BeaconRead {
     pub outcome: Outcome,
     pub beacon: Beacon,

@@ -1,5 +1,7 @@
 // The frame control field: frame type, version and address modes by their bits, and the two bytes taken apart and put
 // together.
+#![tactic(auto)]
+
 ghost use Rattle.octets.specs.Words.{◌≤◌, ◌≡◌};
 ghost use Rattle.frame_control.specs.Types.{type_of, type_bits, type_outcome, known_type};
 ghost use Rattle.frame_control.specs.Versions.{version_of, version_bits, version_outcome, known_version};
@@ -8,7 +10,7 @@ ghost use Rattle.frame_control.specs.Control.{control_of, control_in, control_bi
 
 use octets::{Outcome, bit_of};
 
-#[derive(Drop)]
+#[derive(Clone, Copy)]
 pub enum FrameType {
     Beacon,
     Data,
@@ -20,7 +22,7 @@ pub enum FrameType {
 }
 
 // What bits say of a frame type: which it is, or refusal 3.
-#[derive(Drop)]
+#[derive(Clone, Copy)]
 pub enum FrameTypeRead {
     Read(FrameType),
     Refused,
@@ -80,7 +82,7 @@ impl FrameType {
     }
 }
 
-#[derive(Drop)]
+#[derive(Clone, Copy)]
 pub enum FrameVersion {
     Ieee802154_2003,
     Ieee802154_2006,
@@ -88,7 +90,7 @@ pub enum FrameVersion {
 }
 
 // What bits say of a frame version: which it is, or refusal 2.
-#[derive(Drop)]
+#[derive(Clone, Copy)]
 pub enum FrameVersionRead {
     Read(FrameVersion),
     Refused,
@@ -140,7 +142,7 @@ impl FrameVersion {
     }
 }
 
-#[derive(Drop)]
+#[derive(Clone, Copy)]
 pub enum AddressMode {
     None,
     Short,
@@ -148,7 +150,7 @@ pub enum AddressMode {
 }
 
 // What bits say of an address mode: which it is, or refusal 4.
-#[derive(Drop)]
+#[derive(Clone, Copy)]
 pub enum AddressModeRead {
     Read(AddressMode),
     Refused,
@@ -201,7 +203,7 @@ impl AddressMode {
 }
 
 // The ten fields of the frame control; the two address modes bear the names of the addresses that they announce.
-#[derive(Drop)]
+#[derive(Clone, Copy)]
 pub struct FrameControl {
     pub frame_type: FrameType,
     pub security: bool,
@@ -215,7 +217,7 @@ pub struct FrameControl {
     pub source: AddressMode,
 }
 
-#[derive(Drop)]
+#[derive(Clone, Copy)]
 pub enum FrameControlRefusal {
     Version,
     FrameType,
@@ -223,7 +225,7 @@ pub enum FrameControlRefusal {
 }
 
 // The fields of a frame control, or the first refusal in the order version, type, destination mode, source mode.
-#[derive(Drop)]
+#[derive(Clone, Copy)]
 pub enum FrameControlRead {
     Read(FrameControl),
     Refused(FrameControlRefusal),

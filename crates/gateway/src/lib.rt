@@ -1,5 +1,7 @@
 // The gateway's four entries for C. Each returns one number: the length, or 1000 plus the refusal number. They measure,
 // and copy what is rewritten with the listed bits cleared; no record is made.
+#![tactic(auto)]
+
 ghost use Rattle.octets.specs.Words.{◌≤◌, ◌≡◌, length};
 ghost use Rattle.octets.specs.{Buffer.laid, Buffer.after, Little.number, Outcome.accepted};
 ghost use Rattle.header_bytes.specs.{Reading.measured, Rewriting.rewrite_header, Cleared.header_cleared};

@@ -1,4 +1,6 @@
 // The header of a frame: read from any slice, written into any slice, its lengths, and the edits that a bridge makes.
+#![tactic(auto)]
+
 ghost use Rattle.octets.specs.Words.{◌+◌, ◌-◌, min, ◌≡◌, length, drop};
 ghost use Rattle.octets.specs.Buffer.{laid, after};
 ghost use Rattle.security.specs.Optional.{counter_of};
@@ -20,7 +22,7 @@ use security::{OptionalCounter, OptionalSecurityHeader};
 
 // The fields of the Rust crate, and the length: how many bytes the header takes in a frame, where the payload begins.
 // Who changes a part of it by hand makes the length right by `with_length`; writing refuses a wrong one with 8.
-#[derive(Drop)]
+#[derive(Clone, Copy)]
 pub struct Header {
     pub frame_type: FrameType,
     pub frame_pending: bool,
@@ -37,7 +39,7 @@ pub struct Header {
 }
 
 // The refusals of reading: 1, 2, 3, 4 and 5.
-#[derive(Drop)]
+#[derive(Clone, Copy)]
 pub enum HeaderRefusal {
     Ended,
     Version,
@@ -47,7 +49,7 @@ pub enum HeaderRefusal {
 }
 
 // What reading answers: the header with its length, or the first refusal in its order.
-#[derive(Drop)]
+#[derive(Clone, Copy)]
 pub enum HeaderRead {
     Read(Header, usize),
     Refused(HeaderRefusal),
@@ -118,7 +120,7 @@ fn header_in(s: &[u8], w: u16) -> Header
 }
 
 // What an edit answers: the changed record, or refusal 12, PAN ids that are not to be shared, with the record as it was.
-#[derive(Drop)]
+#[derive(Clone, Copy)]
 pub enum HeaderEdited {
     Edited(Header),
     Unshared(Header),

@@ -1,5 +1,7 @@
 // The header at the beginning of a slice, by its bytes alone: its number and length, told by the bits of its frame
 // control. No record is made. What stands in specs/ is what records, measuring and the C entries share.
+#![tactic(auto)]
+
 ghost use Rattle.octets.specs.Words.{◌+◌, ◌≤◌, ◌<◌, not, ◌&&◌, ◌≡◌, ltb, eqb};
 ghost use Rattle.octets.specs.Bits.{bits, bit};
 ghost use Rattle.header_bytes.specs.Layout.{own_destination, own_source, pan_size, address_size, security_size};

@@ -1,5 +1,7 @@
 // The parts of a header that tell its length: compression, both addresses, the security part. How many bytes they take
 // in a frame, and what writing a header of such parts answers.
+#![tactic(auto)]
+
 ghost use Rattle.octets.specs.Words.{◌≤◌, ◌≡◌};
 ghost use Rattle.header_parts.specs.Parts.{parts_length, write_parts, written_outcome};
 
@@ -10,7 +12,7 @@ use security::{OptionalCounter, OptionalSecurityHeader};
 
 // What writing answers: the length, or the first refusal of 8 (the kept length, the security level), 1 (below three
 // bytes), 6, 1 (addresses), 7, 1 (security part).
-#[derive(Drop)]
+#[derive(Clone, Copy)]
 pub enum HeaderWritten {
     Written(usize),
     WrongLength,

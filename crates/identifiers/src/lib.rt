@@ -1,5 +1,7 @@
 // PAN ids, short addresses and extended addresses: three wrappers that are never mixed, each with its own broadcast
 // form, read and written as a part of a slice at a place.
+#![tactic(auto)]
+
 ghost use Rattle.octets.specs.Words.{◌≡◌};
 ghost use Rattle.octets.specs.Buffer.{after};
 ghost use Rattle.octets.specs.Little.{split};
@@ -10,11 +12,11 @@ ghost use Rattle.identifiers.specs.ExtendedAddress.{extended, read_extended, ext
 
 use octets::{Outcome, PartWritten, left, u16_at, u64_at, write_number};
 
-#[derive(Drop)]
+#[derive(Clone, Copy)]
 pub struct PanId(pub u16);
 
 // What reading it answers: the value, or refusal 1.
-#[derive(Drop)]
+#[derive(Clone, Copy)]
 pub enum PanIdRead {
     Read(PanId),
     Ended,
@@ -57,11 +59,11 @@ impl PanId {
     }
 }
 
-#[derive(Drop)]
+#[derive(Clone, Copy)]
 pub struct ShortAddress(pub u16);
 
 // What reading it answers: the value, or refusal 1.
-#[derive(Drop)]
+#[derive(Clone, Copy)]
 pub enum ShortAddressRead {
     Read(ShortAddress),
     Ended,
@@ -104,11 +106,11 @@ impl ShortAddress {
     }
 }
 
-#[derive(Drop)]
+#[derive(Clone, Copy)]
 pub struct ExtendedAddress(pub u64);
 
 // What reading it answers: the value, or refusal 1.
-#[derive(Drop)]
+#[derive(Clone, Copy)]
 pub enum ExtendedAddressRead {
     Read(ExtendedAddress),
     Ended,

@@ -1,5 +1,7 @@
 // The key identifier: an optional source and an index, announced by the key identifier mode of the security control.
 // Bytes past the end of a slice count as 0 in `key_at` and are dropped by `put_key`: readers and writers measure first.
+#![tactic(auto)]
+
 ghost use Rattle.octets.specs.Words.{◌+◌, ◌-◌, ◌≤◌, min, ◌≡◌, length};
 ghost use Rattle.octets.specs.Buffer.{laid, after};
 ghost use Rattle.octets.specs.Part.{write_part, part_outcome};
@@ -9,25 +11,25 @@ ghost use Rattle.key_identifier.specs.Key.{mode_of_key, key_length, key_in, sour
 use octets::{PartWritten, behind, left, put, u8_at, u32_at, u64_at};
 use security_control::KeyIdentifierMode;
 
-#[derive(Drop)]
+#[derive(Clone, Copy)]
 pub enum KeySource {
     Short(u32),
     Long(u64),
 }
 
-#[derive(Drop)]
+#[derive(Clone, Copy)]
 pub enum OptionalKeySource {
     Absent,
     Present(KeySource),
 }
 
-#[derive(Drop)]
+#[derive(Clone, Copy)]
 pub struct KeyIdentifier {
     pub key_source: OptionalKeySource,
     pub key_index: u8,
 }
 
-#[derive(Drop)]
+#[derive(Clone, Copy)]
 pub enum OptionalKeyIdentifier {
     Absent,
     Present(KeyIdentifier),

@@ -1,5 +1,7 @@
 // A line that is a label, a tab and a frame in hex: taken apart, and what is stored to answer it. A store takes as much
 // as has room and returns the place behind it, so that nothing is asked of a caller.
+#![tactic(auto)]
+
 ghost use Rattle.octets.specs.Words.{◌%◌, [], ◌∷◌, ◌≡◌, length};
 ghost use Rattle.octets.specs.Buffer.{laid};
 ghost use Rattle.labelled.specs.Answer.{bad};
@@ -17,7 +19,7 @@ pub const FRAME_MOST: usize = 512;
 
 // A line taken apart: whether it is of its form, where its first tab stands, or its end, and how many bytes the digits
 // behind that gave; of a line that is too long, false and zeros.
-#[derive(Drop)]
+#[derive(Clone, Copy)]
 pub struct Parted {
     pub good: bool,
     pub tab: usize,

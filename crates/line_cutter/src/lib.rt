@@ -1,6 +1,8 @@
 // Cuts input that comes in chunks into lines. The line at hand is the first n bytes of a buffer that the caller lends,
 // which keeps as much of a line as has room: one byte more than the longest line allowed is enough to tell a longer
 // one.
+#![tactic(auto)]
+
 ghost use Rattle.octets.specs.Words.{◌+◌, ◌≡◌, length, drop};
 ghost use Rattle.octets.specs.Buffer.{laid, fitting};
 ghost use Rattle.line_cutter.specs.Line.{before, is_at, line_of, taken};
@@ -15,7 +17,7 @@ pub const KEPT_MOST: usize = LINE_MOST + 1;
 
 // What was taken of a chunk: how many bytes of the line at hand are kept, the place up to which the chunk is used, and
 // whether the line has ended.
-#[derive(Drop)]
+#[derive(Clone, Copy)]
 pub struct Taken {
     pub n: usize,
     pub at: usize,

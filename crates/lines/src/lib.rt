@@ -1,5 +1,7 @@
 // The line program on slices: what a chunk of the input adds to the output, and what its end adds. The line at hand is
 // the first n bytes of a buffer of KEPT_MOST.
+#![tactic(auto)]
+
 mod one_line;
 
 ghost use Rattle.octets.specs.Words.{◌+◌, ◌-◌, ◌*◌, ◌≤◌, ◌<◌, [], ◌++◌, ◌≡◌, length, take, drop, replicate};
@@ -17,7 +19,7 @@ use octets::left;
 use one_line::{put_answer, put_good};
 
 // How many bytes of the line at hand are kept, how much of the output is used, and whether the chunk was taken.
-#[derive(Drop)]
+#[derive(Clone, Copy)]
 pub struct Fed {
     pub n: usize,
     pub used: usize,
@@ -25,7 +27,7 @@ pub struct Fed {
 }
 
 // In the midst of a chunk: the first two, and the place up to which the chunk is used.
-#[derive(Drop)]
+#[derive(Clone, Copy)]
 struct Step {
     n: usize,
     used: usize,

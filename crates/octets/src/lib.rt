@@ -1,6 +1,8 @@
 // Little-endian numbers at a place of a slice, read and stored, and what an answer says in document 01's numbers. No
 // public function asks anything: bytes past the end of a slice count as 0 where they are read, and are dropped where
 // they are stored. Readers and writers measure first.
+#![tactic(auto)]
+
 ghost use Rattle.octets.specs.Words.{◌+◌, ◌-◌, ◌^◌, ◌≤◌, ◌<◌, min, cond, ◌≡◌, ltb, length};
 ghost use Rattle.octets.specs.Bits.{bit_of};
 ghost use Rattle.octets.specs.Buffer.{laid, after, fitting};
@@ -10,7 +12,7 @@ ghost use Rattle.octets.specs.Part.{write_part, part_outcome};
 ghost use Rattle.octets.specs.Value.{value_outcome};
 
 // What an answer says: document 01's number, 0 where it accepts, and the length, 0 where it refuses.
-#[derive(Drop)]
+#[derive(Clone, Copy)]
 pub struct Outcome {
     pub number: u8,
     pub length: usize,
@@ -33,7 +35,7 @@ impl Outcome {
 }
 
 // What writing a part answers that can only lack room: its length, or refusal 1.
-#[derive(Drop)]
+#[derive(Clone, Copy)]
 pub enum PartWritten {
     Written(usize),
     Full,
@@ -51,7 +53,7 @@ impl PartWritten {
 }
 
 // What writing a part answers that can hold a value too large for its bits: its length, refusal 8, or refusal 1.
-#[derive(Drop)]
+#[derive(Clone, Copy)]
 pub enum ValueWritten {
     Written(usize),
     TooLarge,

@@ -1,5 +1,7 @@
 // The payload of a frame: what follows its header and, of an unsecured beacon, its content, as a part of the caller's
 // own slice.
+#![tactic(auto)]
+
 ghost use Rattle.octets.specs.Words.{◌≤◌, ◌≡◌, length};
 ghost use Rattle.beacon.specs.Beacon.{read_beacon};
 ghost use Rattle.payload.specs.Frame.{unsecured_beacon, without_beacon, with_beacon, read_frame, payload_of};
@@ -11,7 +13,7 @@ use octets::Outcome;
 
 // What came of the beacon that a frame may hold. It is looked at only in an unsecured beacon frame whose header is
 // accepted; then it is accepted, with its length, or refused, with the number.
-#[derive(Drop)]
+#[derive(Clone, Copy)]
 pub enum BeaconAnswer {
     NotLookedAt,
     Accepted(usize),
@@ -20,7 +22,7 @@ pub enum BeaconAnswer {
 
 // What a frame says. The outcome's length is the place where the payload begins. The beacon is the empty one where none
 // was accepted.
-#[derive(Drop)]
+#[derive(Clone, Copy)]
 pub struct FrameRead {
     pub outcome: Outcome,
     pub header: HeaderRead,

@@ -1,6 +1,8 @@
 // The pending addresses of a beacon, of devices for which the coordinator holds messages: a header with two counts,
 // then the short addresses and then the extended ones. No public function asks anything; reading and writing measure
 // before they call those that do (`requires`).
+#![tactic(auto)]
+
 ghost use Rattle.octets.specs.Words.{◌+◌, ◌-◌, ◌*◌, ◌≤◌, false, cond, ◌++◌, flat_map, ◌≡◌, length, take};
 ghost use Rattle.octets.specs.Buffer.{laid, after};
 ghost use Rattle.octets.specs.Value.{value_outcome};
@@ -91,7 +93,7 @@ fn put_lists(
 }
 
 // The two lists.
-#[derive(Drop)]
+#[derive(Clone, Copy)]
 pub struct PendingAddress {
     // How many places of each array are in use, at most 7 in a record that can be written.
     pub short_address_count: usize,
@@ -101,21 +103,21 @@ pub struct PendingAddress {
 }
 
 // The short addresses: the count with the array.
-#[derive(Drop)]
+#[derive(Clone, Copy)]
 pub struct ShortAddresses {
     pub count: usize,
     pub addresses: [ShortAddress; 7],
 }
 
 // The extended addresses: the count with the array.
-#[derive(Drop)]
+#[derive(Clone, Copy)]
 pub struct ExtendedAddresses {
     pub count: usize,
     pub addresses: [ExtendedAddress; 7],
 }
 
 // What reading pending addresses answers; refused, with the empty ones.
-#[derive(Drop)]
+#[derive(Clone, Copy)]
 pub struct PendingRead {
     pub outcome: Outcome,
     pub pending_address: PendingAddress,

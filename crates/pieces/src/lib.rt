@@ -1,5 +1,7 @@
 // A header reader that takes a header in pieces, as a chip hands it over, and answers with the last byte needed. Its
 // state is a value: each call hands back the next one, the answer, and how many bytes of the piece were used.
+#![tactic(auto)]
+
 ghost use Rattle.std.specs.Prelude.{max};
 ghost use Rattle.octets.specs.Words.{◌≤◌, true, ◌≡◌, length, take};
 ghost use Rattle.pieces.specs.Needed.{control_unseen, needed};
@@ -16,7 +18,7 @@ pub const HEADER_MOST: usize = 37;
 
 // The bytes seen so far, their count, and how many it awaits: it looks at them once so many are there. It waits as long
 // as it awaits more than it has.
-#[derive(Drop)]
+#[derive(Clone, Copy)]
 pub struct HeaderReader {
     bytes: [u8; HEADER_MOST],
     count: usize,
@@ -25,7 +27,7 @@ pub struct HeaderReader {
 
 // What is said of a piece or of the end: more bytes are needed, the header with its length, the whole reader's refusal,
 // or 9 where the answer was given before.
-#[derive(Drop)]
+#[derive(Clone, Copy)]
 pub enum PieceAnswer {
     More,
     Done(Header, usize),
@@ -34,7 +36,7 @@ pub enum PieceAnswer {
 }
 
 // What a call hands back: the reader for the next call, the answer, and how many bytes of the piece were used.
-#[derive(Drop)]
+#[derive(Clone, Copy)]
 pub struct PieceTaken {
     pub reader: HeaderReader,
     pub answer: PieceAnswer,

@@ -1,6 +1,8 @@
 // The quick reader: number and length of the header at the beginning of a slice, by one look at its frame control. A
 // table says for each choice of compression, security and bits 10 to 15 which refusal it is, or how long the header is
 // up to its security control. No record is made.
+#![tactic(auto)]
+
 ghost use Rattle.octets.specs.Words.{◌+◌, ◌*◌, ◌≤◌, ◌<◌, [], ◌∷◌, ◌≡◌, ltb};
 ghost use Rattle.header_bytes.specs.{Layout.security_size, Reading.answered, Reading.measured};
 ghost use Rattle.quick.specs.Code.{code_of};

@@ -1,6 +1,8 @@
 // The auxiliary security header: security control, frame counter, key identifier; read and written as a part of a slice
 // at a place. Bytes past the end of a slice count as 0 in `at` and are dropped by `put`: readers and writers measure
 // first.
+#![tactic(auto)]
+
 ghost use Rattle.octets.specs.Words.{◌+◌, ◌-◌, ◌≤◌, min, ◌≡◌, length};
 ghost use Rattle.octets.specs.Buffer.{laid, after};
 ghost use Rattle.security.specs.Security.{security_of, security_in, security_length, security_control_written};
@@ -14,21 +16,21 @@ use key_identifier::{OptionalKeyIdentifier, key_at, key_octets, put_key};
 use octets::{Outcome, behind, left, put, u8_at, u32_at};
 use security_control::SecurityControl;
 
-#[derive(Drop)]
+#[derive(Clone, Copy)]
 pub struct AuxiliarySecurityHeader {
     pub control: SecurityControl,
     pub frame_counter: u32,
     pub key_identifier: OptionalKeyIdentifier,
 }
 
-#[derive(Drop)]
+#[derive(Clone, Copy)]
 pub enum OptionalSecurityHeader {
     Absent,
     Present(AuxiliarySecurityHeader),
 }
 
 // The frame counter that a writer is handed, or none.
-#[derive(Drop)]
+#[derive(Clone, Copy)]
 pub enum OptionalCounter {
     Absent,
     Present(u32),
@@ -136,7 +138,7 @@ impl OptionalCounter {
 }
 
 // What reading answers: the security header with its length, or refusal 1.
-#[derive(Drop)]
+#[derive(Clone, Copy)]
 pub enum SecurityHeaderRead {
     Read(AuxiliarySecurityHeader, usize),
     Ended,
@@ -154,7 +156,7 @@ impl SecurityHeaderRead {
 }
 
 // What writing answers: the length, or the first refusal of 8 (a level above 7), 7 (no counter handed) and 1 (no room).
-#[derive(Drop)]
+#[derive(Clone, Copy)]
 pub enum SecurityHeaderWritten {
     Written(usize),
     TooLarge,

@@ -1,4 +1,6 @@
 // The security control byte: security level and key identifier mode.
+#![tactic(auto)]
+
 ghost use Rattle.octets.specs.Words.{◌≤◌, ◌≡◌};
 ghost use Rattle.octets.specs.Buffer.{after};
 ghost use Rattle.octets.specs.Little.{split};
@@ -9,7 +11,7 @@ ghost use Rattle.security_control.specs.Control.{security_control_outcome};
 
 use octets::{Outcome, ValueWritten, left, put, u8_at};
 
-#[derive(Drop)]
+#[derive(Clone, Copy)]
 pub enum KeyIdentifierMode {
     None,
     KeyIndex,
@@ -45,14 +47,14 @@ impl KeyIdentifierMode {
 }
 
 // The level is a number, of which 0 to 7 can be written.
-#[derive(Drop)]
+#[derive(Clone, Copy)]
 pub struct SecurityControl {
     pub security_level: u8,
     pub key_id_mode: KeyIdentifierMode,
 }
 
 // What reading it answers: the control, or refusal 1.
-#[derive(Drop)]
+#[derive(Clone, Copy)]
 pub enum SecurityControlRead {
     Read(SecurityControl),
     Ended,

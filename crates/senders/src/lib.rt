@@ -1,5 +1,7 @@
 // Senders and what is counted of each: frames, repeats and missing ones, by the steps of its sequence numbers. The
 // counts of at most sixty-four stand in a table that the caller lends, a row of seven numbers for each.
+#![tactic(auto)]
+
 ghost use Rattle.octets.specs.Words.{◌≤◌, ◌<◌, ◌&&◌, ◌≡◌, leb, eqb, length};
 ghost use Rattle.senders.specs.Sender.{same};
 ghost use Rattle.senders.specs.Counts.{step_to, repeats_by, missing_by};
@@ -14,7 +16,7 @@ pub const SENDERS_MOST: usize = 64;
 pub const TABLE: usize = 7 * SENDERS_MOST;
 
 // A source address with its PAN id: how many bytes the address has, 2 or 8, and the two numbers.
-#[derive(Drop)]
+#[derive(Clone, Copy)]
 pub struct Sender {
     pub octets: u64,
     pub pan_id: u64,
@@ -22,7 +24,7 @@ pub struct Sender {
 }
 
 // A sender, its last sequence number, and its counts.
-#[derive(Drop)]
+#[derive(Clone, Copy)]
 pub struct Counted {
     pub who: Sender,
     pub last: u64,
@@ -32,7 +34,7 @@ pub struct Counted {
 }
 
 // What hearing a frame gives: how many rows of the table are in use, and whether the frame was counted.
-#[derive(Drop)]
+#[derive(Clone, Copy)]
 pub struct Heard {
     pub rows: usize,
     pub counted: bool,

@@ -1,6 +1,8 @@
 // The superframe specification: beacon order and superframe order, each a number or the case that 15 stands for, the
 // final slot of the contention access period and three flags, in two bytes. No public function asks anything; reading
 // and writing measure before they call those that do (`requires`).
+#![tactic(auto)]
+
 ghost use Rattle.octets.specs.Words.{◌+◌, ◌-◌, ◌≤◌, false, ◌≡◌, length};
 ghost use Rattle.octets.specs.Buffer.{laid, after};
 ghost use Rattle.octets.specs.Value.{value_outcome};
@@ -12,7 +14,7 @@ ghost use Rattle.superframe.specs.Superframe.{rest_byte, superframe_bytes, super
 use octets::{Outcome, ValueWritten, bit_of, left, put, u8_at};
 
 // How often beacons are sent.
-#[derive(Drop)]
+#[derive(Clone, Copy)]
 pub enum BeaconOrder {
     BeaconOrder(u8),
     OnDemand,
@@ -52,7 +54,7 @@ impl BeaconOrder {
 }
 
 // How long the active part of a superframe is.
-#[derive(Drop)]
+#[derive(Clone, Copy)]
 pub enum SuperframeOrder {
     SuperframeOrder(u8),
     Inactive,
@@ -92,7 +94,7 @@ impl SuperframeOrder {
 }
 
 // The two bytes' fields.
-#[derive(Drop)]
+#[derive(Clone, Copy)]
 pub struct SuperframeSpecification {
     pub beacon_order: BeaconOrder,
     pub superframe_order: SuperframeOrder,
@@ -106,7 +108,7 @@ pub struct SuperframeSpecification {
 }
 
 // What reading a superframe specification answers; refused, with the empty one.
-#[derive(Drop)]
+#[derive(Clone, Copy)]
 pub struct SuperframeRead {
     pub outcome: Outcome,
     pub superframe_spec: SuperframeSpecification,

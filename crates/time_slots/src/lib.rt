@@ -1,6 +1,8 @@
 // The GTS information of a beacon: a header with permit and count, and for a count above 0 a byte of directions and the
 // descriptors of the guaranteed time slots (GTS), three bytes each. No public function asks anything; reading and
 // writing measure before they call those that do (`requires`).
+#![tactic(auto)]
+
 ghost use Rattle.octets.specs.Words.{◌+◌, ◌-◌, ◌*◌, ◌≤◌, ◌<◌, false, cond, flat_map, ◌≡◌, length, take};
 ghost use Rattle.octets.specs.Buffer.{laid, after};
 ghost use Rattle.octets.specs.Value.{value_outcome};
@@ -17,7 +19,7 @@ use identifiers::ShortAddress;
 use octets::{Outcome, ValueWritten, bit_of, left, put, u8_at, u16_at};
 
 // Which way a slot is used by the device that it is for.
-#[derive(Drop)]
+#[derive(Clone, Copy)]
 pub enum Direction {
     Receive,
     Transmit,
@@ -49,7 +51,7 @@ impl Direction {
 }
 
 // One slot of the list.
-#[derive(Drop)]
+#[derive(Clone, Copy)]
 pub struct GuaranteedTimeSlotDescriptor {
     // The device that the slot is for.
     pub short_address: ShortAddress,
@@ -60,7 +62,7 @@ pub struct GuaranteedTimeSlotDescriptor {
 }
 
 // What reading a descriptor answers; refused, with the empty one.
-#[derive(Drop)]
+#[derive(Clone, Copy)]
 pub struct DescriptorRead {
     pub outcome: Outcome,
     pub slot: GuaranteedTimeSlotDescriptor,
@@ -246,7 +248,7 @@ fn put_list(slots: [GuaranteedTimeSlotDescriptor; 7], n: usize, out: &mut [u8], 
 }
 
 // The header and the list.
-#[derive(Drop)]
+#[derive(Clone, Copy)]
 pub struct GuaranteedTimeSlotInformation {
     // The coordinator takes requests for slots.
     pub permit: bool,
@@ -256,14 +258,14 @@ pub struct GuaranteedTimeSlotInformation {
 }
 
 // The slots: the count with the array.
-#[derive(Drop)]
+#[derive(Clone, Copy)]
 pub struct Slots {
     pub count: usize,
     pub slots: [GuaranteedTimeSlotDescriptor; 7],
 }
 
 // What reading GTS information answers; refused, with the empty one.
-#[derive(Drop)]
+#[derive(Clone, Copy)]
 pub struct TimeSlotsRead {
     pub outcome: Outcome,
     pub guaranteed_time_slot_info: GuaranteedTimeSlotInformation,

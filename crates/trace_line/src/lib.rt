@@ -1,5 +1,7 @@
 // One line of a trace, tick, antenna, header size and bytes in hex, parted by tabs: taken apart, and what its frame
 // says.
+#![tactic(auto)]
+
 ghost use Rattle.octets.specs.Words.{◌≤◌, ◌≡◌, length};
 ghost use Rattle.octets.specs.Buffer.{laid};
 ghost use Rattle.trace_line.specs.Parts.{no_parts, decimal_field, frame_in, parts_in};
@@ -15,7 +17,7 @@ use senders::Sender;
 
 // What a line says: it is answered 10; its frame is refused; its frame names no source; or a sender was heard, with a
 // sequence number.
-#[derive(Drop)]
+#[derive(Clone, Copy)]
 pub enum Saying {
     Unread,
     Refused,
@@ -25,7 +27,7 @@ pub enum Saying {
 
 // A line taken apart as far as it is of its form: whether tick, antenna and size are there, the size, how many bytes the
 // digits behind them gave, and the place behind these digits; where not, zeros and the place where the line begins.
-#[derive(Drop)]
+#[derive(Clone, Copy)]
 pub struct Parts {
     pub good: bool,
     pub size: u64,
