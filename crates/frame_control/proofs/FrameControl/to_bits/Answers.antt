@@ -1,0 +1,10 @@
+-- `frame_control::FrameControl::to_bits` meets its contract.
+-- Assumes nothing.
+use native.Mathlib.Omega.{arith}
+use borrow.Author.Rules.{rules}
+use Rattle.frame_control.specs.Control.{control_bits}
+use Rattle.frame_control.proofs.FrameControl.to_bits.Goals as goal
+
+pub returns : goal.returns
+unfolding control_bits
+returns c = omega (arith, c)

@@ -1,0 +1,25 @@
+-- `hexadecimal::decode_by` meets its contract. The invariant: what is left to decode, stored from where the loop stands, gives what is wanted.
+-- Assumes nothing.
+use Prim.Native.Nat.{ℕ, ◌+◌, ◌-◌, ◌*◌, ◌≤◌, ◌<◌}
+use native.Mathlib.Omega.{arith}
+use mathlib.Core.List.{List, []}
+use mathlib.Core.Path.{◌≡◌, refl, sym, ap, ◌∙◌}
+use borrow.Author.Rules.{rules}
+use lib.ListN.{length, get_or, length-set}
+use Rattle.octets.specs.Buffer.{laid}
+use Rattle.octets.proofs.Buffer.{laid_none, laid_cons}
+use Rattle.hexadecimal.specs.Hex.{decoded_by}
+use Rattle.hexadecimal.proofs.Hex.{by_other, rest, rest_all, rest_pair, rest_none, rest_end}
+use Rattle.hexadecimal.proofs.decode_by.Given as goal
+
+abbrev pub invariant-loop-n : goal.invariant-loop-n
+invariant-loop-n l =
+    (l.n ≤ l.end)
+    × (l.end ≤ length l.initial.out)
+    × (2 * l.end ≤ length l.s - l.at)
+    × (length l.out ≡ length l.initial.out)
+    × (laid l.out l.n (rest l.values l.s l.at (length l.initial.out) l.n) ≡ laid l.initial.out 0 (decoded_by l.values l.s l.at (length l.initial.out)))
+    × (l.n + length (rest l.values l.s l.at (length l.initial.out) l.n) ≡ length (decoded_by l.values l.s l.at (length l.initial.out)))
+
+abbrev pub decreases-loop-n : goal.decreases-loop-n
+decreases-loop-n l = l.end - l.n

@@ -1,0 +1,14 @@
+-- `identifiers::ShortAddress::read` meets its contract: its test is the definition's.
+-- Assumes nothing.
+use borrow.Author.Rules.{rules}
+use Rattle.octets.proofs.Part.{fewer, enough}
+use Rattle.identifiers.specs.ShortAddress.{read_short}
+use Rattle.identifiers.proofs.ShortAddress.read.Goals as goal
+
+pub returns-then-left-lt2 : goal.returns-then-left-lt2
+unfolding read_short
+returns-then-left-lt2 c = simp (fewer c.left.ensures c.if-left-lt2.true)
+
+pub returns : goal.returns
+unfolding read_short
+returns c = simp (enough c.left.ensures c.if-left-lt2.false, c.u16_at.ensures)

@@ -1,0 +1,11 @@
+-- `line_cutter::is_at` meets its contract.
+-- Assumes nothing.
+use borrow.Author.Rules.{rules}
+use borrow.Author.Tests.{lt-ltb, le-ltb}
+use Rattle.line_cutter.proofs.is_at.Goals as goal
+
+pub returns-then-i-s : goal.returns-then-i-s
+returns-then-i-s c = simp (lt-ltb _ _ c.if-i-s.true)
+
+pub returns-else-i-s : goal.returns-else-i-s
+returns-else-i-s c = simp (le-ltb _ _ c.if-i-s.false)

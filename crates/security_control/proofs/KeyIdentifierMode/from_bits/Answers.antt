@@ -1,0 +1,23 @@
+-- `security_control::KeyIdentifierMode::from_bits` meets its contract: each arm's number is listed, and the last arm's is none of those.
+-- Assumes nothing.
+use borrow.Author.Tests.{ne_eqb}
+use Rattle.security_control.specs.Control.{key_mode_of}
+use Rattle.security_control.proofs.KeyIdentifierMode.from_bits.Goals as goal
+
+pub returns-in_default : goal.returns-in_default
+unfolding key_mode_of
+returns-in_default c =
+    let r = c.in_default-own.rest in
+    simp (ne_eqb _ _ r.1, ne_eqb _ _ r.0.1, ne_eqb _ _ r.0.0.1)
+
+pub returns-in-0 : goal.returns-in-0
+unfolding key_mode_of
+returns-in-0 c = rw c.in-0.is
+
+pub returns-in-1 : goal.returns-in-1
+unfolding key_mode_of
+returns-in-1 c = rw c.in-1.is
+
+pub returns-in-2 : goal.returns-in-2
+unfolding key_mode_of
+returns-in-2 c = rw c.in-2.is

@@ -1,0 +1,30 @@
+-- `senders::row_of` meets its contract. The invariant: the sender is in none of the rows that were looked at.
+-- Assumes nothing.
+use Rattle.std.proofs.Common.{◌≡◌, ◌-◌, ◌≤◌, sym, refl, ◌∙◌, arith, rules}
+use Rattle.senders.specs.Table.{counted_in, row_of}
+use Rattle.senders.specs.Hearing.{place_of}
+use Rattle.senders.proofs.Rows.{row_not, row_found}
+use Rattle.senders.proofs.row_of.Goals as goal
+
+pub loop-i-init : goal.loop-i-init
+unfolding counted_in place_of
+loop-i-init c = (omega arith, refl)
+
+pub returns-then-is_row_of : goal.returns-then-is_row_of
+returns-then-is_row_of c =
+    let a = c.args in
+    row_found a.who a.table.now c.loop-i.i a.n (omega (arith, c.loop-i-test.true)) c.loop-i.invariant.1
+    (sym c.is_row_of.ensures ∙ c.if-is_row_of.true)
+
+pub loop-i-preserved : goal.loop-i-preserved
+loop-i-preserved c =
+    let a = c.args in (
+      omega (arith, c.loop-i-test.true),
+      row_not a.who a.table.now c.loop-i.i c.loop-i.invariant.1 (sym c.is_row_of.ensures ∙ c.if-is_row_of.false),
+    )
+
+pub returns : goal.returns
+returns c =
+    let a = c.args in
+    let e : c.loop-i.i ≡ a.n = omega (arith, c.loop-i-test.false, c.loop-i.invariant.0) in
+    rw e at (sym c.loop-i.invariant.1)
