@@ -101,8 +101,8 @@ unfolding row_in
 row_there t i h k = simp (fits_so t (i + 1) h (omega arith))
 
 -- one more frame can be counted where the test says so, and else it cannot
-pub goes_on : (c : Counted) → can_go_on c ≡ true → Countable c
-goes_on c h =
+pub goes_on_lem : (c : Counted) → can_go_on c ≡ true → Countable c
+goes_on_lem c h =
     let x = both _ _ h in
     let y = both _ _ x.0 in
     let z = both _ _ y.0 in

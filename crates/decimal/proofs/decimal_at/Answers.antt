@@ -15,11 +15,6 @@ use Rattle.decimal.proofs.Numerals.{numeral_range, numerals_digit, numerals_othe
 use Rattle.decimal.proofs.Numerals.{Counted, counted_none, counted_more, counted_past, in_good, in_large, in_none}
 use Rattle.decimal.proofs.decimal_at.Goals as goal
 
--- what the digits make with it, and that it is below 2^64 or not, as the tests tell
-abbrev next : goal.After-shared_slice_known-in-loop-i-2-1 invariant_loop decreases_loop → ℕ
-next c =
-    10 * c.loop-i.value + (get_or c.args.s.now c.loop-i.i 0 - 48)
-
 pub loop-i-init : goal.loop-i-init
 loop-i-init c = (refl, counted_none _)
 

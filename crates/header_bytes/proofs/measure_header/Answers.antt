@@ -14,17 +14,6 @@ use Rattle.octets.specs.Bits.{bits}
 use Rattle.header_bytes.specs.{Layout.header_end, Reading.read_tests, Reading.answered, Reading.measured}
 use Rattle.header_bytes.proofs.measure_header.Goals as goal
 
--- what the tests on the frame control answer, the first k of them left out
-abbrev from : ℕ → goal.After-u16_at-w → Outcome
-from k c =
-    let s = c.args.s.now in
-    let w = c.u16_at-w.result in
-    answered (drop k (read_tests s w)) (header_end s w)
-
--- what all of them answer
-abbrev read : goal.After-u16_at-w → Outcome
-read c = measured c.args.s.now
-
 pub returns-then-s-lt3 : goal.returns-then-s-lt3
 unfolding measured
 returns-then-s-lt3 c = simp (c.refused.ensures, lt-ltb _ _ c.if-s-lt3.true)
@@ -32,21 +21,29 @@ returns-then-s-lt3 c = simp (c.refused.ensures, lt-ltb _ _ c.if-s-lt3.true)
 pub returns-then-w-eq3 : goal.returns-then-w-eq3
 unfolding measured
 returns-then-w-eq3 c =
-    let three_there : from 1 c ≡ read c =
+    let from : ℕ → Outcome =
+    λ k. let s = c.args.s.now in
+    let w = c.u16_at-w.result in
+    answered (drop k (read_tests s w)) (header_end s w) in
+    let three_there : from 1 ≡ read c =
     let s = c.args.s.now in
-    let here : from 1 c ≡ from 0 c = simp (le-ltb _ _ c.if-s-lt3.false) in
+    let here : from 1 ≡ from 0 = simp (le-ltb _ _ c.if-s-lt3.false) in
     here ∙ ap (λ w. answered (read_tests s w) (header_end s w)) c.u16_at-w.ensures in
     rw (← three_there) (simp (c.refused-then-w-eq3.ensures, eq-eqb _ _ c.if-w-eq3.true))
 
 pub returns-then-w-eq4 : goal.returns-then-w-eq4
 unfolding measured
 returns-then-w-eq4 c =
-    let three_there : from 1 c ≡ read c =
+    let from : ℕ → Outcome =
+    λ k. let s = c.args.s.now in
+    let w = c.u16_at-w.result in
+    answered (drop k (read_tests s w)) (header_end s w) in
+    let three_there : from 1 ≡ read c =
     let s = c.args.s.now in
-    let here : from 1 c ≡ from 0 c = simp (le-ltb _ _ c.if-s-lt3.false) in
+    let here : from 1 ≡ from 0 = simp (le-ltb _ _ c.if-s-lt3.false) in
     here ∙ ap (λ w. answered (read_tests s w) (header_end s w)) c.u16_at-w.ensures in
-    let version_known : from 2 c ≡ read c =
-    let here : from 2 c ≡ from 1 c = simp (ne_eqb _ _ c.if-w-eq3.false) in
+    let version_known : from 2 ≡ read c =
+    let here : from 2 ≡ from 1 = simp (ne_eqb _ _ c.if-w-eq3.false) in
     here ∙ three_there in
     let four : eqb (bits c.u16_at-w.result 0 3) 4 ≡ true = eq-eqb _ _ (bits_low c.u16_at-w.result 3 ∙ c.if-w-eq4.true) in
     rw (← version_known) (simp (c.refused-then-w-eq4.ensures, four))
@@ -54,59 +51,71 @@ returns-then-w-eq4 c =
 pub returns-then-w-eq1 : goal.returns-then-w-eq1
 unfolding measured
 returns-then-w-eq1 c =
-    let three_there : from 1 c ≡ read c =
+    let from : ℕ → Outcome =
+    λ k. let s = c.args.s.now in
+    let w = c.u16_at-w.result in
+    answered (drop k (read_tests s w)) (header_end s w) in
+    let three_there : from 1 ≡ read c =
     let s = c.args.s.now in
-    let here : from 1 c ≡ from 0 c = simp (le-ltb _ _ c.if-s-lt3.false) in
+    let here : from 1 ≡ from 0 = simp (le-ltb _ _ c.if-s-lt3.false) in
     here ∙ ap (λ w. answered (read_tests s w) (header_end s w)) c.u16_at-w.ensures in
-    let version_known : from 2 c ≡ read c =
-    let here : from 2 c ≡ from 1 c = simp (ne_eqb _ _ c.if-w-eq3.false) in
+    let version_known : from 2 ≡ read c =
+    let here : from 2 ≡ from 1 = simp (ne_eqb _ _ c.if-w-eq3.false) in
     here ∙ three_there in
-    let type_known : from 3 c ≡ read c =
+    let type_known : from 3 ≡ read c =
     let other : eqb (bits c.u16_at-w.result 0 3) 4 ≡ false =
     ap (λ (n : ℕ). eqb n 4) (bits_low c.u16_at-w.result 3) ∙ ne_eqb _ _ c.if-w-eq4.false in
-    let here : from 3 c ≡ from 2 c = simp other in
+    let here : from 3 ≡ from 2 = simp other in
     here ∙ version_known in
     rw (← type_known) (simp (c.refused-then-w-eq1.ensures, eq-eqb _ _ c.if-w-eq1.true))
 
 pub returns-then-w-eq1-2 : goal.returns-then-w-eq1-2
 unfolding measured
 returns-then-w-eq1-2 c =
-    let three_there : from 1 c ≡ read c =
+    let from : ℕ → Outcome =
+    λ k. let s = c.args.s.now in
+    let w = c.u16_at-w.result in
+    answered (drop k (read_tests s w)) (header_end s w) in
+    let three_there : from 1 ≡ read c =
     let s = c.args.s.now in
-    let here : from 1 c ≡ from 0 c = simp (le-ltb _ _ c.if-s-lt3.false) in
+    let here : from 1 ≡ from 0 = simp (le-ltb _ _ c.if-s-lt3.false) in
     here ∙ ap (λ w. answered (read_tests s w) (header_end s w)) c.u16_at-w.ensures in
-    let version_known : from 2 c ≡ read c =
-    let here : from 2 c ≡ from 1 c = simp (ne_eqb _ _ c.if-w-eq3.false) in
+    let version_known : from 2 ≡ read c =
+    let here : from 2 ≡ from 1 = simp (ne_eqb _ _ c.if-w-eq3.false) in
     here ∙ three_there in
-    let type_known : from 3 c ≡ read c =
+    let type_known : from 3 ≡ read c =
     let other : eqb (bits c.u16_at-w.result 0 3) 4 ≡ false =
     ap (λ (n : ℕ). eqb n 4) (bits_low c.u16_at-w.result 3) ∙ ne_eqb _ _ c.if-w-eq4.false in
-    let here : from 3 c ≡ from 2 c = simp other in
+    let here : from 3 ≡ from 2 = simp other in
     here ∙ version_known in
-    let destination_known : from 4 c ≡ read c =
-    let here : from 4 c ≡ from 3 c = simp (ne_eqb _ _ c.if-w-eq1.false) in
+    let destination_known : from 4 ≡ read c =
+    let here : from 4 ≡ from 3 = simp (ne_eqb _ _ c.if-w-eq1.false) in
     here ∙ type_known in
     rw (← destination_known) (simp (c.refused-then-w-eq1-2.ensures, eq-eqb _ _ c.if-w-eq1-2.true))
 
 pub returns : goal.returns
 unfolding measured
 returns c =
-    let three_there : from 1 c ≡ read c =
+    let from : ℕ → Outcome =
+    λ k. let s = c.args.s.now in
+    let w = c.u16_at-w.result in
+    answered (drop k (read_tests s w)) (header_end s w) in
+    let three_there : from 1 ≡ read c =
     let s = c.args.s.now in
-    let here : from 1 c ≡ from 0 c = simp (le-ltb _ _ c.if-s-lt3.false) in
+    let here : from 1 ≡ from 0 = simp (le-ltb _ _ c.if-s-lt3.false) in
     here ∙ ap (λ w. answered (read_tests s w) (header_end s w)) c.u16_at-w.ensures in
-    let version_known : from 2 c ≡ read c =
-    let here : from 2 c ≡ from 1 c = simp (ne_eqb _ _ c.if-w-eq3.false) in
+    let version_known : from 2 ≡ read c =
+    let here : from 2 ≡ from 1 = simp (ne_eqb _ _ c.if-w-eq3.false) in
     here ∙ three_there in
-    let type_known : from 3 c ≡ read c =
+    let type_known : from 3 ≡ read c =
     let other : eqb (bits c.u16_at-w.result 0 3) 4 ≡ false =
     ap (λ (n : ℕ). eqb n 4) (bits_low c.u16_at-w.result 3) ∙ ne_eqb _ _ c.if-w-eq4.false in
-    let here : from 3 c ≡ from 2 c = simp other in
+    let here : from 3 ≡ from 2 = simp other in
     here ∙ version_known in
-    let destination_known : from 4 c ≡ read c =
-    let here : from 4 c ≡ from 3 c = simp (ne_eqb _ _ c.if-w-eq1.false) in
+    let destination_known : from 4 ≡ read c =
+    let here : from 4 ≡ from 3 = simp (ne_eqb _ _ c.if-w-eq1.false) in
     here ∙ type_known in
-    let source_known : from 5 c ≡ read c =
-    let here : from 5 c ≡ from 4 c = simp (ne_eqb _ _ c.if-w-eq1-2.false) in
+    let source_known : from 5 ≡ read c =
+    let here : from 5 ≡ from 4 = simp (ne_eqb _ _ c.if-w-eq1-2.false) in
     here ∙ destination_known in
     c.measure_fields.ensures ∙ source_known

@@ -127,4 +127,4 @@ returns-in-102 c = rw c.in-102.is
 
 pub returns-in_default : goal.returns-in_default
 unfolding digit
-returns-in_default c = other _ (omega (arith, c.ranges.b.fits)) c.in_default-own.rest
+returns-in_default c = other _ (omega (arith, c.ranges.b.fits)) c.in_default.in_default-own.rest

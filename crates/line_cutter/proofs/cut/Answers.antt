@@ -27,7 +27,7 @@ returns-then-end-chunk c =
     let s = drop a.at a.chunk.now in
     let l = before_part 10 10 a.at c.find-end.result s c.find-end.ensures in
     let h : length (line_of s) < length s = omega (arith, c.find-end.ensures, length-drop a.at a.chunk.now) in record {
-      value = taken_ended s a.at a.line-1.now a.n c.find-end.result c.copy-kept.result c.find-end.ensures (rw l at c.copy-kept.ensures.value) h;
+      value = taken_ended s a.at a.line.now a.n c.find-end.result c.copy-kept.result c.find-end.ensures (rw l at c.copy-kept.ensures.value) h;
       line_after = rw l at c.copy-kept.ensures.out_after;
     }
 
@@ -37,6 +37,6 @@ returns-else-end-chunk c =
     let s = drop a.at a.chunk.now in
     let l = before_part 10 10 a.at c.find-end.result s c.find-end.ensures in
     let h : length s ≤ length (line_of s) = omega (arith, c.find-end.ensures, length-drop a.at a.chunk.now) in record {
-      value = taken_open s a.at a.line-1.now a.n c.find-end.result c.copy-kept.result c.find-end.ensures (rw l at c.copy-kept.ensures.value) h;
+      value = taken_open s a.at a.line.now a.n c.find-end.result c.copy-kept.result c.find-end.ensures (rw l at c.copy-kept.ensures.value) h;
       line_after = rw l at c.copy-kept.ensures.out_after;
     }

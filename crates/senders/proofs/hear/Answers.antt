@@ -5,7 +5,7 @@ use borrow.Author.Tests.{not-true, not-false}
 use Rattle.senders.specs.declared.Counted.{Counted}
 use Rattle.senders.specs.Hearing.{senders_most}
 use Rattle.senders.specs.Table.{table_length, row_set, fits}
-use Rattle.senders.proofs.Rows.{fits_parts, goes_on, heard_unfit, heard_known, heard_stuck, heard_new, heard_full}
+use Rattle.senders.proofs.Rows.{fits_parts, goes_on_lem, heard_unfit, heard_known, heard_stuck, heard_new, heard_full}
 use Rattle.senders.proofs.hear.Goals as goal
 
 pub returns-then-not-fits : goal.returns-then-not-fits
@@ -46,7 +46,7 @@ returns-then-not-can_go_on c =
     }
 
 pub again-requires : goal.again-requires
-again-requires c = goes_on _ (sym c.can_go_on.ensures ∙ not-false _ c.if-not-can_go_on.false-raw)
+again-requires c = goes_on_lem _ (sym c.can_go_on.ensures ∙ not-false _ c.if-not-can_go_on.false-raw)
 
 pub put_row-requires : goal.put_row-requires
 put_row-requires c =
@@ -59,9 +59,9 @@ put_row-requires c =
 
 pub returns-then-i-rows : goal.returns-then-i-rows
 returns-then-i-rows c =
-    let fit : (let a = c.args in fits a.table-1.now a.rows ≡ true) = sym c.fits2.ensures ∙ not-false _ c.if-not-fits.false-raw in
+    let fit : (let a = c.args in fits a.table.now a.rows ≡ true) = sym c.fits2.ensures ∙ not-false _ c.if-not-fits.false-raw in
     let a = c.args in
-    let both = heard_known a.table-1.now a.rows a.who a.number c.row_of-i.result c.row_of-i.ensures c.row_in-c.result c.again.result _
+    let both = heard_known a.table.now a.rows a.who a.number c.row_of-i.result c.row_of-i.ensures c.row_in-c.result c.again.result _
     (fit) c.if-i-rows.true c.row_in-c.ensures (sym c.can_go_on.ensures ∙ not-false _ c.if-not-can_go_on.false-raw) c.again.ensures c.put_row.ensures in record {
       table_after = both.0;
       rows_value = both.1;

@@ -7,7 +7,7 @@ use Rattle.frame_control.proofs.AddressMode.from_bits.Goals as goal
 pub returns-in_default : goal.returns-in_default
 unfolding mode_of
 returns-in_default c =
-    let r = c.in_default-own.rest in
+    let r = c.in_default.in_default-own.rest in
     simp (ne_eqb _ _ r.1, ne_eqb _ _ r.0.1, ne_eqb _ _ r.0.0.1)
 
 pub returns-in-0 : goal.returns-in-0

@@ -45,9 +45,9 @@ returns-then-bits-eq1-2 c =
 pub returns : goal.returns
 returns c =
     let known : Known _ = record {
-      returns-then-bits-eq3 = ne_eqb _ _ c.if-bits-eq3.false;
+      version = ne_eqb _ _ c.if-bits-eq3.false;
       type = type_other _ c.if-bits-eq4.false;
-      returns-then-bits-eq1 = ne_eqb _ _ c.if-bits-eq1.false;
-      returns-then-bits-eq1-2 = ne_eqb _ _ c.if-bits-eq1-2.false;
+      destination = ne_eqb _ _ c.if-bits-eq1.false;
+      source = ne_eqb _ _ c.if-bits-eq1-2.false;
     } in
     ap Read c.of.ensures ∙ sym (control_read _ known)
