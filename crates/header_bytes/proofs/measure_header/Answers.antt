@@ -25,7 +25,8 @@ returns-then-w-eq3 c =
     λ k. let s = c.args.s.now in
     let w = c.u16_at-w.result in
     answered (drop k (read_tests s w)) (header_end s w) in
-    let three_there : from 1 ≡ read c =
+    let read : Outcome = measured c.args.s.now in
+    let three_there : from 1 ≡ read =
     let s = c.args.s.now in
     let here : from 1 ≡ from 0 = simp (le-ltb _ _ c.if-s-lt3.false) in
     here ∙ ap (λ w. answered (read_tests s w) (header_end s w)) c.u16_at-w.ensures in
@@ -38,11 +39,12 @@ returns-then-w-eq4 c =
     λ k. let s = c.args.s.now in
     let w = c.u16_at-w.result in
     answered (drop k (read_tests s w)) (header_end s w) in
-    let three_there : from 1 ≡ read c =
+    let read : Outcome = measured c.args.s.now in
+    let three_there : from 1 ≡ read =
     let s = c.args.s.now in
     let here : from 1 ≡ from 0 = simp (le-ltb _ _ c.if-s-lt3.false) in
     here ∙ ap (λ w. answered (read_tests s w) (header_end s w)) c.u16_at-w.ensures in
-    let version_known : from 2 ≡ read c =
+    let version_known : from 2 ≡ read =
     let here : from 2 ≡ from 1 = simp (ne_eqb _ _ c.if-w-eq3.false) in
     here ∙ three_there in
     let four : eqb (bits c.u16_at-w.result 0 3) 4 ≡ true = eq-eqb _ _ (bits_low c.u16_at-w.result 3 ∙ c.if-w-eq4.true) in
@@ -55,14 +57,15 @@ returns-then-w-eq1 c =
     λ k. let s = c.args.s.now in
     let w = c.u16_at-w.result in
     answered (drop k (read_tests s w)) (header_end s w) in
-    let three_there : from 1 ≡ read c =
+    let read : Outcome = measured c.args.s.now in
+    let three_there : from 1 ≡ read =
     let s = c.args.s.now in
     let here : from 1 ≡ from 0 = simp (le-ltb _ _ c.if-s-lt3.false) in
     here ∙ ap (λ w. answered (read_tests s w) (header_end s w)) c.u16_at-w.ensures in
-    let version_known : from 2 ≡ read c =
+    let version_known : from 2 ≡ read =
     let here : from 2 ≡ from 1 = simp (ne_eqb _ _ c.if-w-eq3.false) in
     here ∙ three_there in
-    let type_known : from 3 ≡ read c =
+    let type_known : from 3 ≡ read =
     let other : eqb (bits c.u16_at-w.result 0 3) 4 ≡ false =
     ap (λ (n : ℕ). eqb n 4) (bits_low c.u16_at-w.result 3) ∙ ne_eqb _ _ c.if-w-eq4.false in
     let here : from 3 ≡ from 2 = simp other in
@@ -76,19 +79,20 @@ returns-then-w-eq1-2 c =
     λ k. let s = c.args.s.now in
     let w = c.u16_at-w.result in
     answered (drop k (read_tests s w)) (header_end s w) in
-    let three_there : from 1 ≡ read c =
+    let read : Outcome = measured c.args.s.now in
+    let three_there : from 1 ≡ read =
     let s = c.args.s.now in
     let here : from 1 ≡ from 0 = simp (le-ltb _ _ c.if-s-lt3.false) in
     here ∙ ap (λ w. answered (read_tests s w) (header_end s w)) c.u16_at-w.ensures in
-    let version_known : from 2 ≡ read c =
+    let version_known : from 2 ≡ read =
     let here : from 2 ≡ from 1 = simp (ne_eqb _ _ c.if-w-eq3.false) in
     here ∙ three_there in
-    let type_known : from 3 ≡ read c =
+    let type_known : from 3 ≡ read =
     let other : eqb (bits c.u16_at-w.result 0 3) 4 ≡ false =
     ap (λ (n : ℕ). eqb n 4) (bits_low c.u16_at-w.result 3) ∙ ne_eqb _ _ c.if-w-eq4.false in
     let here : from 3 ≡ from 2 = simp other in
     here ∙ version_known in
-    let destination_known : from 4 ≡ read c =
+    let destination_known : from 4 ≡ read =
     let here : from 4 ≡ from 3 = simp (ne_eqb _ _ c.if-w-eq1.false) in
     here ∙ type_known in
     rw (← destination_known) (simp (c.refused-then-w-eq1-2.ensures, eq-eqb _ _ c.if-w-eq1-2.true))
@@ -100,22 +104,23 @@ returns c =
     λ k. let s = c.args.s.now in
     let w = c.u16_at-w.result in
     answered (drop k (read_tests s w)) (header_end s w) in
-    let three_there : from 1 ≡ read c =
+    let read : Outcome = measured c.args.s.now in
+    let three_there : from 1 ≡ read =
     let s = c.args.s.now in
     let here : from 1 ≡ from 0 = simp (le-ltb _ _ c.if-s-lt3.false) in
     here ∙ ap (λ w. answered (read_tests s w) (header_end s w)) c.u16_at-w.ensures in
-    let version_known : from 2 ≡ read c =
+    let version_known : from 2 ≡ read =
     let here : from 2 ≡ from 1 = simp (ne_eqb _ _ c.if-w-eq3.false) in
     here ∙ three_there in
-    let type_known : from 3 ≡ read c =
+    let type_known : from 3 ≡ read =
     let other : eqb (bits c.u16_at-w.result 0 3) 4 ≡ false =
     ap (λ (n : ℕ). eqb n 4) (bits_low c.u16_at-w.result 3) ∙ ne_eqb _ _ c.if-w-eq4.false in
     let here : from 3 ≡ from 2 = simp other in
     here ∙ version_known in
-    let destination_known : from 4 ≡ read c =
+    let destination_known : from 4 ≡ read =
     let here : from 4 ≡ from 3 = simp (ne_eqb _ _ c.if-w-eq1.false) in
     here ∙ type_known in
-    let source_known : from 5 ≡ read c =
+    let source_known : from 5 ≡ read =
     let here : from 5 ≡ from 4 = simp (ne_eqb _ _ c.if-w-eq1-2.false) in
     here ∙ destination_known in
     c.measure_fields.ensures ∙ source_known

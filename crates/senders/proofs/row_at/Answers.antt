@@ -24,7 +24,7 @@ module _ (t : List ℕ) (i : ℕ) where
 pub row_in-requires : goal.row_in-requires
 row_in-requires c =
     let a = c.args in
-    let p = fits_parts a.table.now (a.i + 1) (sym c.fits2.ensures ∙ not-false _ c.if-not-fits.false-raw) in record {
+    let p = fits_parts a.table.now (a.i + 1) (sym c.fits.ensures ∙ not-false _ c.if-not-fits.false-raw) in record {
       i_lt_senders_most = omega (arith, p.1);
       table_len = p.0;
     }
@@ -35,9 +35,9 @@ returns-then-i-ge-SENDERS_MOST c = let a = c.args in not_there a.table.now a.i (
 pub returns-then-not-fits : goal.returns-then-not-fits
 returns-then-not-fits c =
     let a = c.args in
-    not_there a.table.now a.i (sym c.fits2.ensures ∙ not-true _ c.if-not-fits.true-raw)
+    not_there a.table.now a.i (sym c.fits.ensures ∙ not-true _ c.if-not-fits.true-raw)
 
 pub returns : goal.returns
 returns c =
     let a = c.args in
-    c.row_in.ensures ∙ there a.table.now a.i (sym c.fits2.ensures ∙ not-false _ c.if-not-fits.false-raw)
+    c.row_in.ensures ∙ there a.table.now a.i (sym c.fits.ensures ∙ not-false _ c.if-not-fits.false-raw)
