@@ -11,8 +11,7 @@ use Rattle.header_bytes.specs.{Layout.header_end, Reading.read_tests, Reading.me
 use Rattle.header_bytes.proofs.Accepted.{measured_most}
 use Rattle.header_bytes.proofs.Passed.{answered_refusal}
 use Rattle.quick.proofs.OneNumber.{by_number, code_accepts, code_refuses}
-use Rattle.quick.proofs.measure_header.Statement.{statement}
-use Rattle.quick.proofs.measure_header.Tie as tie
+use Rattle.quick.proofs.measure_header.Goals as goal
 
 -- a refusal has length 0
 without : (s : List ℕ) → ((measured s).number ≡ 0 → ⊥) → measured s ≡ refused (measured s).number
@@ -21,25 +20,18 @@ without s f =
     let w = number s 0 2 in
     answered_refusal refused (read_tests s w) (header_end s w) (accepted (header_end s w)) f
 
-accepts : tie.Need-returns
-accepts c =
-    let call = c.before.before in
-    let s = call.before.before.args.s.now in
-    let e = call.header-code.ensures in
-    c.accepted.ensures ∙ ap accepted e ∙ code_accepts (measured s) (omega (arith, c.before.if1.true, e))
+pub returns-then-code-lt1000 : goal.returns-then-code-lt1000
+returns-then-code-lt1000 c =
+    let s = c.args.s.now in
+    let e = c.header_code-code.ensures in
+    c.accepted.ensures ∙ ap accepted e ∙ code_accepts (measured s) (omega (arith, c.if-code-lt1000.true, e))
 
-refuses : tie.Need-returns-2
-refuses c =
-    let call = c.before.before in
-    let s = call.before.before.args.s.now in
-    let e = call.header-code.ensures in
+pub returns-else-code-lt1000 : goal.returns-else-code-lt1000
+returns-else-code-lt1000 c =
+    let s = c.args.s.now in
+    let e = c.header_code-code.ensures in
     let most = measured_most s in
-    let other = code_refuses (measured s) most.1 (omega (arith, c.before.if1.false, e)) in
+    let other = code_refuses (measured s) most.1 (omega (arith, c.if-code-lt1000.false, e)) in
     let told = by_number (measured s) (ne_eqb _ 0 other) in
-    let number : (call.header-code.result - 1000) % 256 ≡ (measured s).number = omega (arith, e, told, most.0) in
+    let number : (c.header_code-code.result - 1000) % 256 ≡ (measured s).number = omega (arith, e, told, most.0) in
     c.refused.ensures ∙ ap refused number ∙ sym (without s other)
-
-pub measure_header_spec : {M : Type 1} → statement M
-measure_header_spec =
-    tie.close
-    (tie.spec (λ c κs. search rules) (λ c κs. search rules) (λ c. search rules) (λ c κs. search rules) accepts refuses)

@@ -6,15 +6,11 @@ use borrow.Author.Rules.{rules}
 use borrow.Fn.Function.{res_v}
 use Rattle.octets.proofs.Each.{same}
 use Rattle.quick.specs.Table.{table_at}
-use Rattle.quick.proofs.entry.Statement.{statement}
-use Rattle.quick.proofs.entry.Tie as tie
 use Rattle.quick.proofs.entry.Reads as reads
 use Rattle.quick.proofs.entry.Lts as lts
+use Rattle.quick.proofs.entry.Goals as goal
 
-returns : tie.Need-returns
+pub returns : goal.returns
 returns c =
     same (λ (i : ℕ). res_v lts.r tt (lts.m13 reads.Pre reads.Post (record { i = i }) c.blocks).0) table_at 256 tt c.args.i
     (search rules)
-
-pub entry_spec : {M : Type 1} → statement M
-entry_spec = tie.close (tie.spec (λ c. search rules) returns)

@@ -7,22 +7,15 @@ use Rattle.octets.specs.Little.{join}
 use Rattle.octets.proofs.Each.{same}
 use Rattle.quick.specs.Table.{table_at, row_of}
 use Rattle.quick.proofs.Table.{at_index}
-use Rattle.quick.proofs.look.Statement.{statement}
-use Rattle.quick.proofs.look.Tie as tie
+use Rattle.quick.proofs.look.Goals as goal
 
-returns : tie.Need-returns
+pub returns : goal.returns
 unfolding join
 returns c =
-    let a = c.before.before.args in
-    let index = c.before.index in
+    let a = c.args in
+    let index = c.index-i in
     let i = index.result in
     ap (λ (row : ℕ). row / 2 ^ (i % 4 * 8) % 256) c.row.ensures
     ∙ same (λ (i : ℕ). join (row_of (i / 4)) / 2 ^ (i % 4 * 8) % 256) table_at 256 tt i index.ensures.1
     ∙ ap table_at index.ensures.0
     ∙ at_index (a.a + 256 * a.b)
-
-pub look_spec : {M : Type 1} → statement M
-look_spec =
-    tie.close
-    (tie.spec (λ c κs. search rules) (λ c κs. search rules) (λ c. search rules) (λ c. search rules) (λ c. search rules)
-    (λ c. search rules) returns)
