@@ -10,23 +10,23 @@ use Rattle.address.proofs.put_address.Goals as goal
 pub returns-in_default : goal.returns-in_default
 unfolding address_bytes
 returns-in_default c =
-    let both = rw c.in_default.is (omega arith, sym (laid_none _ _)) in record {
-      value = both.0;
-      out_after = both.1;
+    record {
+      value = rw c.in_default.is (omega arith);
+      out_after = rw c.in_default.is (sym (laid_none _ _));
     }
 
 pub returns-in-Short : goal.returns-in-Short
 unfolding address_bytes
 returns-in-Short c =
-    let both = rw (c.in-Present.is, c.in-Short.is) c.put_pair.ensures in record {
-      value = both.0;
-      out_after = both.1;
+    record {
+      value = rw (c.in-Present.is, c.in-Short.is) (c.put_pair.ensures.value);
+      out_after = rw (c.in-Present.is, c.in-Short.is) (c.put_pair.ensures.out_after);
     }
 
 pub returns-in-Extended : goal.returns-in-Extended
 unfolding address_bytes
 returns-in-Extended c =
-    let both = rw (c.in-Present.is, c.in-Extended.is) c.put_pair-in-Extended.ensures in record {
-      value = both.0;
-      out_after = both.1;
+    record {
+      value = rw (c.in-Present.is, c.in-Extended.is) (c.put_pair-in-Extended.ensures.value);
+      out_after = rw (c.in-Present.is, c.in-Extended.is) (c.put_pair-in-Extended.ensures.out_after);
     }

@@ -8,14 +8,14 @@ use Rattle.address.proofs.put_pan.Goals as goal
 
 pub returns-then-own : goal.returns-then-own
 returns-then-own c =
-    let both = rw c.if-own.true c.put.ensures in record {
-      value = both.0;
-      out_after = both.1;
+    record {
+      value = rw c.if-own.true (c.put.ensures.value);
+      out_after = rw c.if-own.true (c.put.ensures.out_after);
     }
 
 pub returns-else-own : goal.returns-else-own
 returns-else-own c =
-    let both = rw c.if-own.false (omega arith, sym (laid_none _ _)) in record {
-      value = both.0;
-      out_after = both.1;
+    record {
+      value = rw c.if-own.false (omega arith);
+      out_after = rw c.if-own.false (sym (laid_none _ _));
     }
