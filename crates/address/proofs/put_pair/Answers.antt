@@ -9,9 +9,7 @@ use Rattle.address.proofs.put_pair.Goals as goal
 
 pub returns : goal.returns
 returns c =
-    let second = (c.put.ensures.value, c.put.ensures.out_after) in
-    let first = (c.put_pan-next.ensures.value, c.put_pan-next.ensures.out_after) in
     let a = c.args in record {
-      value = omega (arith, first.0, c.put_pan-next.auto.1.1.0, second.0);
-      out_after = second.1 ∙ rw first.1 (laid_on _ _ _ _ _ _ (pan_length_lem a.own a.«pan-id») first.0);
+      value = omega (arith, c.put_pan-next.ensures.value, c.put_pan-next.auto.out, c.put.ensures.value);
+      out_after = c.put.ensures.out_after ∙ rw c.put_pan-next.ensures.out_after (laid_on _ _ _ _ _ _ (pan_length_lem a.own a.pan_id) c.put_pan-next.ensures.value);
     }

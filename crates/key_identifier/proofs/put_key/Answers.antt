@@ -19,9 +19,7 @@ returns-in_default c =
 pub returns : goal.returns
 unfolding key_bytes
 returns c =
-    let index = c.put in
-    let first = (c.put_source-next.ensures.value, c.put_source-next.ensures.out_after) in
-    let source = c.in-Present.present.key_source in record {
-      value = rw c.in-Present.is (omega (arith, index.ensures.0, first.0, c.put_source-next.auto.1.0, source_key source));
-      out_after = rw c.in-Present.is (index.ensures.1 ∙ rw first.1 (laid_on _ _ _ _ _ _ (source_length_lem source) first.0));
+    record {
+      value = rw c.in-Present.is (omega (arith, c.put.ensures.value, c.put_source-next.ensures.value, c.put_source-next.auto.out, source_key c.in-Present.present.key_source));
+      out_after = rw c.in-Present.is (c.put.ensures.out_after ∙ rw c.put_source-next.ensures.out_after (laid_on _ _ _ _ _ _ (source_length_lem c.in-Present.present.key_source) c.put_source-next.ensures.value));
     }

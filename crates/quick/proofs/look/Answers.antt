@@ -13,9 +13,7 @@ pub returns : goal.returns
 unfolding join
 returns c =
     let a = c.args in
-    let index = c.index-i in
-    let i = index.result in
-    ap (λ (row : ℕ). row / 2 ^ (i % 4 * 8) % 256) c.row.ensures
-    ∙ same (λ (i : ℕ). join (row_of (i / 4)) / 2 ^ (i % 4 * 8) % 256) table_at 256 tt i index.ensures.1
-    ∙ ap table_at index.ensures.0
+    ap (λ (row : ℕ). row / 2 ^ (c.index-i.result % 4 * 8) % 256) c.row.ensures
+    ∙ same (λ (c.index-i.result : ℕ). join (row_of (c.index-i.result / 4)) / 2 ^ (c.index-i.result % 4 * 8) % 256) table_at 256 tt c.index-i.result c.index-i.ensures.upper_bound
+    ∙ ap table_at c.index-i.ensures.value
     ∙ at_index (a.a + 256 * a.b)
