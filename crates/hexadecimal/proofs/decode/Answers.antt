@@ -13,7 +13,7 @@ use Rattle.hexadecimal.proofs.decode.Goals as goal
 pub returns : goal.returns
 returns c =
     let a = c.args in
-    let both = subst (λ (b : List ℕ). (c.decode_by.result ≡ length b) × (c.decode_by.new.out.0 ≡ laid a.out.now 0 b))
+    let both = subst (λ (b : List ℕ). (c.decode_by.result ≡ length b) × (c.decode_by.new.out ≡ laid a.out.now 0 b))
     (by_digits _ a.s.now a.at (length a.out.now) c.values-values.ensures (bytes_known a.s.now c.type_inv.s))
     (c.decode_by.ensures.value, c.decode_by.ensures.out_after) in record {
       value = both.0;

@@ -13,7 +13,8 @@ pub returns : goal.returns
 unfolding join
 returns c =
     let a = c.args in
-    ap (λ (row : ℕ). row / 2 ^ (c.index-i.result % 4 * 8) % 256) c.row.ensures
-    ∙ same (λ (c.index-i.result : ℕ). join (row_of (c.index-i.result / 4)) / 2 ^ (c.index-i.result % 4 * 8) % 256) table_at 256 tt c.index-i.result c.index-i.ensures.upper_bound
+    let i = c.index-i.result in
+    ap (λ (row : ℕ). row / 2 ^ (i % 4 * 8) % 256) c.row.ensures
+    ∙ same (λ (i : ℕ). join (row_of (i / 4)) / 2 ^ (i % 4 * 8) % 256) table_at 256 tt i c.index-i.ensures.upper_bound
     ∙ ap table_at c.index-i.ensures.value
     ∙ at_index (a.a + 256 * a.b)

@@ -1,0 +1,14 @@
+-- `pending::shorts_at` meets its contract. The invariant: the places passed hold their addresses, and the others are broadcast.
+-- Assumes nothing.
+use Prim.Native.Nat.{◌-◌, ◌≤◌}
+use native.Mathlib.Omega.{arith}
+use mathlib.Core.Path.{◌≡◌, sym, ap, ◌∙◌}
+use Rattle.seven_places.proofs.Seven.{seven_none, seven_more}
+use Rattle.pending.specs.Addresses.{short_at, shorts_in}
+use Rattle.pending.proofs.shorts_at.Given as goal
+
+abbrev pub invariant-loop-k : goal.invariant-loop-k
+invariant-loop-k l = (l.k ≤ l.n) × (l.addresses ≡ shorts_in l.s l.at l.k)
+
+abbrev pub decreases-loop-k : goal.decreases-loop-k
+decreases-loop-k l = l.n - l.k

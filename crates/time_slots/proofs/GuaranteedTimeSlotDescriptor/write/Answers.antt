@@ -1,0 +1,35 @@
+-- `time_slots::GuaranteedTimeSlotDescriptor::write` meets its contract: the three ends of a writer, and `put` stores where there is room.
+-- Assumes nothing.
+use mathlib.Core.Path.{refl}
+use borrow.Author.Rules.{rules}
+use Rattle.octets.proofs.Value.{too_large, plain, no_room, stored}
+use Rattle.time_slots.specs.Descriptor.{write_descriptor}
+use Rattle.time_slots.proofs.GuaranteedTimeSlotDescriptor.write.Goals as goal
+
+pub returns-then-too_large : goal.returns-then-too_large
+unfolding write_descriptor
+returns-then-too_large c =
+    record {
+      value = too_large c.too_large.ensures _ c.if-too_large.true;
+      out_after = refl;
+    }
+
+pub returns-then-left-lt3 : goal.returns-then-left-lt3
+unfolding write_descriptor
+returns-then-left-lt3 c =
+    record {
+      value = no_room c.too_large.ensures c.if-too_large.false refl c.left.ensures c.if-left-lt3.true;
+      out_after = refl;
+    }
+
+pub put-requires : goal.put-requires
+unfolding write_descriptor
+put-requires c = plain c.too_large.ensures c.if-too_large.false
+
+pub returns : goal.returns
+unfolding write_descriptor
+returns c =
+    record {
+      value = stored c.too_large.ensures c.if-too_large.false refl c.left.ensures c.if-left-lt3.false;
+      out_after = c.put.ensures;
+    }

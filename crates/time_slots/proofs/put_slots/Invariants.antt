@@ -1,0 +1,20 @@
+-- `time_slots::put_slots` meets its contract. The invariant: what is still to be stored, from where the loop stands, gives what is wanted.
+-- Assumes nothing.
+use Prim.Native.Nat.{◌+◌, ◌-◌, ◌*◌, ◌≤◌}
+use native.Mathlib.Omega.{arith}
+use mathlib.Core.List.{flat_map}
+use mathlib.Core.Path.{◌≡◌, refl, sym, ◌∙◌}
+use lib.ListN.{length, take, drop}
+use Rattle.octets.specs.Buffer.{laid}
+use Rattle.seven_places.proofs.Seven.{some_fails, put_next, put_done}
+use Rattle.time_slots.specs.Descriptor.{descriptor_bytes, descriptor_too_large}
+use Rattle.time_slots.proofs.Descriptor.{descriptor_length}
+use Rattle.time_slots.proofs.put_slots.Given as goal
+
+abbrev pub invariant-loop-k : goal.invariant-loop-k
+invariant-loop-k l =
+    (l.k ≤ l.n) × ((length l.out ≡ length l.initial.out)
+    × (laid l.out (l.at + 3 * l.k) (flat_map descriptor_bytes (drop l.k (take l.n l.slots))) ≡ laid l.initial.out l.at (flat_map descriptor_bytes (take l.n l.slots))))
+
+abbrev pub decreases-loop-k : goal.decreases-loop-k
+decreases-loop-k l = l.n - l.k
