@@ -22,43 +22,38 @@ returns-then-line-gt-LINE_MOST c =
 
 pub returns : goal.returns
 returns c =
-    let start : tie.Start = c in
-    let tab_at : c.find-tab.result ≡ length (label (start).args.line.now) = omega (arith, c.find-tab.ensures) in
-    let a = (start).args in
-    let n = length a.frame-1.now in
+    let tab_at : c.find-tab.result ≡ length (label c.args.line.now) = omega (arith, c.find-tab.ensures) in
+    let a = c.args in
+    let n = length a.frame.now in
     let h : length a.line.now ≤ line_most = omega (arith, c.if-line-gt-LINE_MOST.false) in record {
       value = part_short a.values.now a.line.now n c.find-tab.result (tab_at) h c.decode_by-count.result c.decode_by-count.ensures.value;
-      frame_after = c.decode_by-count.ensures.out_after ∙ ap (laid a.frame-1.now 0) (frame_short a.values.now a.line.now n c.find-tab.result (tab_at) h);
+      frame_after = c.decode_by-count.ensures.out_after ∙ ap (laid a.frame.now 0) (frame_short a.values.now a.line.now n c.find-tab.result (tab_at) h);
     }
 
 pub overflow_add-tab : goal.overflow_add-tab
 overflow_add-tab c =
-    let start : tie.Start = c in
-    let tab_at : c.find-tab.result ≡ length (label (start).args.line.now) = omega (arith, c.find-tab.ensures) in
-    let tab_within : c.find-tab.result ≤ length (start).args.line.now = omega (arith, tab_at, before_length 9 9 (start).args.line.now) in
+    let tab_at : c.find-tab.result ≡ length (label c.args.line.now) = omega (arith, c.find-tab.ensures) in
+    let tab_within : c.find-tab.result ≤ length c.args.line.now = omega (arith, tab_at, before_length 9 9 c.args.line.now) in
     omega (arith, tab_within)
 
 pub overflow_add-result : goal.overflow_add-result
 overflow_add-result c =
-    let start : tie.Start = c in
-    let tab_at : c.find-tab.result ≡ length (label (start).args.line.now) = omega (arith, c.find-tab.ensures) in
-    let tab_within : c.find-tab.result ≤ length (start).args.line.now = omega (arith, tab_at, before_length 9 9 (start).args.line.now) in
+    let tab_at : c.find-tab.result ≡ length (label c.args.line.now) = omega (arith, c.find-tab.ensures) in
+    let tab_within : c.find-tab.result ≤ length c.args.line.now = omega (arith, tab_at, before_length 9 9 c.args.line.now) in
     omega (arith, tab_within)
 
 pub overflow_mul-result : goal.overflow_mul-result
 overflow_mul-result c =
-    let start : tie.Start = c in
-    let few : 2 * c.decode_by-count.result ≤ length (start).args.line.now =
-    let a = (start).args in
-    omega (arith, c.decode_by-count.ensures.value, frame_within a.values.now a.line.now (c.find-tab.result + 1) (length a.frame-1.now)) in
+    let few : 2 * c.decode_by-count.result ≤ length c.args.line.now =
+    let a = c.args in
+    omega (arith, c.decode_by-count.ensures.value, frame_within a.values.now a.line.now (c.find-tab.result + 1) (length a.frame.now)) in
     omega (arith, few)
 
 pub overflow_add-result-2 : goal.overflow_add-result-2
 overflow_add-result-2 c =
-    let start : tie.Start = c in
-    let tab_at : c.find-tab.result ≡ length (label (start).args.line.now) = omega (arith, c.find-tab.ensures) in
-    let tab_within : c.find-tab.result ≤ length (start).args.line.now = omega (arith, tab_at, before_length 9 9 (start).args.line.now) in
-    let few : 2 * c.decode_by-count.result ≤ length (start).args.line.now =
-    let a = (start).args in
-    omega (arith, c.decode_by-count.ensures.value, frame_within a.values.now a.line.now (c.find-tab.result + 1) (length a.frame-1.now)) in
+    let tab_at : c.find-tab.result ≡ length (label c.args.line.now) = omega (arith, c.find-tab.ensures) in
+    let tab_within : c.find-tab.result ≤ length c.args.line.now = omega (arith, tab_at, before_length 9 9 c.args.line.now) in
+    let few : 2 * c.decode_by-count.result ≤ length c.args.line.now =
+    let a = c.args in
+    omega (arith, c.decode_by-count.ensures.value, frame_within a.values.now a.line.now (c.find-tab.result + 1) (length a.frame.now)) in
     omega (arith, tab_within, few)

@@ -20,7 +20,7 @@ loop-k-preserved c =
       omega arith,
       (
         c.put.auto.out ∙ c.loop-k.invariant.1.0,
-        put_next short_bytes 2 c.args.t1 c.args.n c.loop-k.k _ c.loop-k.out c.args.at
+        put_next short_bytes 2 c.args.addresses c.args.n c.loop-k.k _ c.loop-k.out c.args.at
             (omega (arith, c.well_formed.0.1.0.1)) (omega arith)
             (split_length 2 _) c.put.ensures.out_after
             ∙ c.loop-k.invariant.1.1,
@@ -33,7 +33,7 @@ shape_of-out c = c.loop-k.invariant.1.0
 pub returns : goal.returns
 returns c =
     let a = c.args in
-    sym (put_done short_bytes 2 a.t1 a.n c.loop-k.k c.loop-k.out (a.at + 2 * c.loop-k.k) (omega arith)) ∙ c.loop-k.invariant.1.1
+    sym (put_done short_bytes 2 a.addresses a.n c.loop-k.k c.loop-k.out (a.at + 2 * c.loop-k.k) (omega arith)) ∙ c.loop-k.invariant.1.1
 
 pub offset_bounds-addresses-k : goal.offset_bounds-addresses-k
 offset_bounds-addresses-k c = omega arith

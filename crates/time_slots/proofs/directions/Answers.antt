@@ -12,23 +12,23 @@ use Rattle.time_slots.proofs.directions.Goals as goal
 
 pub loop-k-init : goal.loop-k-init
 unfolding directions_of
-loop-k-init c = (omega arith, rw (rest_none c.args.t1 c.args.n c.args.n (omega arith)))
+loop-k-init c = (omega arith, rw (rest_none c.args.slots c.args.n c.args.n (omega arith)))
 
 pub overflow_mul-byte : goal.overflow_mul-byte
 overflow_mul-byte c =
-    let small = directions_bound c.args.t1 c.args.n c.loop-k.k (omega arith) (omega arith) in
+    let small = directions_bound c.args.slots c.args.n c.loop-k.k (omega arith) (omega arith) in
     omega (arith, c.loop-k.invariant.1)
 
 pub overflow_add-byte : goal.overflow_add-byte
 overflow_add-byte c =
-    let small = directions_bound c.args.t1 c.args.n c.loop-k.k (omega arith) (omega arith) in
+    let small = directions_bound c.args.slots c.args.n c.loop-k.k (omega arith) (omega arith) in
     omega (arith, c.loop-k.invariant.1, c.to_bit.ensures.upper_bound)
 
 pub loop-k-preserved : goal.loop-k-preserved
 loop-k-preserved c =
     (
       omega arith,
-      directions_more c.args.t1 c.args.n c.loop-k.k _ (omega (arith, c.well_formed.0.1.0.1)) (omega arith) (omega arith)
+      directions_more c.args.slots c.args.n c.loop-k.k _ (omega (arith, c.well_formed.0.1.0.1)) (omega arith) (omega arith)
           c.to_bit.ensures.value c.loop-k.invariant.1,
     )
 

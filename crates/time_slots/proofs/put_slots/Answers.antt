@@ -16,7 +16,7 @@ loop-k-init c = let e : c.args.at + 3 * 0 ≡ c.args.at = omega arith in (omega 
 
 pub put-requires : goal.put-requires
 put-requires c =
-    some_fails descriptor_too_large c.args.t1 c.args.n c.loop-k.k _ (omega (arith, c.well_formed.0.1.0.1)) (omega arith)
+    some_fails descriptor_too_large c.args.slots c.args.n c.loop-k.k _ (omega (arith, c.well_formed.0.1.0.1)) (omega arith)
     c.requires.slots_value
 
 pub loop-k-preserved : goal.loop-k-preserved
@@ -25,7 +25,7 @@ loop-k-preserved c =
       omega arith,
       (
         c.put.auto.out ∙ c.loop-k.invariant.1.0,
-        put_next descriptor_bytes 3 c.args.t1 c.args.n c.loop-k.k _ c.loop-k.out c.args.at
+        put_next descriptor_bytes 3 c.args.slots c.args.n c.loop-k.k _ c.loop-k.out c.args.at
             (omega (arith, c.well_formed.0.1.0.1)) (omega arith)
             (descriptor_length _) c.put.ensures
             ∙ c.loop-k.invariant.1.1,
@@ -38,7 +38,7 @@ shape_of-out c = c.loop-k.invariant.1.0
 pub returns : goal.returns
 returns c =
     let a = c.args in
-    sym (put_done descriptor_bytes 3 a.t1 a.n c.loop-k.k c.loop-k.out (a.at + 3 * c.loop-k.k) (omega arith)) ∙ c.loop-k.invariant.1.1
+    sym (put_done descriptor_bytes 3 a.slots a.n c.loop-k.k c.loop-k.out (a.at + 3 * c.loop-k.k) (omega arith)) ∙ c.loop-k.invariant.1.1
 
 pub offset_bounds-slots-k : goal.offset_bounds-slots-k
 offset_bounds-slots-k c = omega arith

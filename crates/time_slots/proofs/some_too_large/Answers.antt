@@ -13,14 +13,14 @@ use Rattle.time_slots.proofs.some_too_large.Goals as goal
 pub returns-then-too_large : goal.returns-then-too_large
 returns-then-too_large c =
     sym (sym c.loop-k.invariant.1
-    ∙ some_found descriptor_too_large c.args.t1 c.args.n c.loop-k.k _ (omega (arith, c.well_formed.0.1.0.1)) (omega arith)
+    ∙ some_found descriptor_too_large c.args.slots c.args.n c.loop-k.k _ (omega (arith, c.well_formed.0.1.0.1)) (omega arith)
     (sym c.too_large.ensures ∙ c.if-too_large.true))
 
 pub loop-k-preserved : goal.loop-k-preserved
 loop-k-preserved c =
     (
       omega arith,
-      some_passed descriptor_too_large c.args.t1 c.args.n c.loop-k.k _ (omega (arith, c.well_formed.0.1.0.1)) (omega arith)
+      some_passed descriptor_too_large c.args.slots c.args.n c.loop-k.k _ (omega (arith, c.well_formed.0.1.0.1)) (omega arith)
           (sym c.too_large.ensures ∙ c.if-too_large.false)
           ∙ c.loop-k.invariant.1,
     )
@@ -28,7 +28,7 @@ loop-k-preserved c =
 pub returns : goal.returns
 returns c =
     let a = c.args in
-    sym (sym c.loop-k.invariant.1 ∙ some_none descriptor_too_large a.t1 a.n c.loop-k.k (omega arith))
+    sym (sym c.loop-k.invariant.1 ∙ some_none descriptor_too_large a.slots a.n c.loop-k.k (omega arith))
 
 pub loop-k-init : goal.loop-k-init
 loop-k-init c = (omega arith, refl)
