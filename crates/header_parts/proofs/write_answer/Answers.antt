@@ -15,8 +15,6 @@ use Rattle.header_parts.specs.declared.HeaderWritten.TheVariants.{Written}
 use Rattle.header_parts.specs.Parts.{parts_length, write_tests, write_parts}
 use Rattle.header_parts.proofs.write_answer.Goals as goal
 
--- where each test began
-
 pub returns-then-kept-parts_length : goal.returns-then-kept-parts_length
 unfolding write_parts
 returns-then-kept-parts_length c =
@@ -43,11 +41,10 @@ returns-then-room-lt3 c =
     λ k. let a = c.args in
     first (drop k (write_tests a.kept a.compress a.destination a.source a.security a.counter a.room))
     (Written (long)) in
-    let start2 : tie.Start = c in
     let right : c.args.kept ≡ long = omega (arith, c.if-kept-parts_length.false, c.parts_length.ensures.value) in
     let length_passed : from 1 ≡ from 0 = simp (eq-eqb _ _ (right)) in
-    let level_passed : from 2 (start2) ≡ from 0 (start2) =
-    let here : from 2 (start2) ≡ from 1 (start2) = simp (sym c.too_large.ensures ∙ c.if-too_large.false) in
+    let level_passed : from 2 ≡ from 0 =
+    let here : from 2 ≡ from 1 = simp (sym c.too_large.ensures ∙ c.if-too_large.false) in
     here ∙ length_passed in
     rw (← level_passed) (simp (lt-ltb _ _ c.if-room-lt3.true))
 
@@ -59,15 +56,13 @@ returns-then-lack_address c =
     λ k. let a = c.args in
     first (drop k (write_tests a.kept a.compress a.destination a.source a.security a.counter a.room))
     (Written (long)) in
-    let start2 : tie.Start = c in
-    let start3 : tie.Start = start2 in
     let right : c.args.kept ≡ long = omega (arith, c.if-kept-parts_length.false, c.parts_length.ensures.value) in
     let length_passed : from 1 ≡ from 0 = simp (eq-eqb _ _ (right)) in
-    let level_passed : from 2 (start2) ≡ from 0 (start2) =
-    let here : from 2 (start2) ≡ from 1 (start2) = simp (sym c.too_large.ensures ∙ c.if-too_large.false) in
+    let level_passed : from 2 ≡ from 0 =
+    let here : from 2 ≡ from 1 = simp (sym c.too_large.ensures ∙ c.if-too_large.false) in
     here ∙ length_passed in
-    let three_passed : from 3 (start3) ≡ from 0 (start3) =
-    let here : from 3 (start3) ≡ from 2 (start3) = simp (le-ltb _ _ c.if-room-lt3.false) in
+    let three_passed : from 3 ≡ from 0 =
+    let here : from 3 ≡ from 2 = simp (le-ltb _ _ c.if-room-lt3.false) in
     here ∙ level_passed in
     rw (← three_passed) (simp (sym c.lack_address.ensures ∙ c.if-lack_address.true))
 
@@ -79,19 +74,16 @@ returns-then-room-addresses_end c =
     λ k. let a = c.args in
     first (drop k (write_tests a.kept a.compress a.destination a.source a.security a.counter a.room))
     (Written (long)) in
-    let start2 : tie.Start = c in
-    let start3 : tie.Start = start2 in
-    let start4 : tie.Start = start3 in
     let right : c.args.kept ≡ long = omega (arith, c.if-kept-parts_length.false, c.parts_length.ensures.value) in
     let length_passed : from 1 ≡ from 0 = simp (eq-eqb _ _ (right)) in
-    let level_passed : from 2 (start2) ≡ from 0 (start2) =
-    let here : from 2 (start2) ≡ from 1 (start2) = simp (sym c.too_large.ensures ∙ c.if-too_large.false) in
+    let level_passed : from 2 ≡ from 0 =
+    let here : from 2 ≡ from 1 = simp (sym c.too_large.ensures ∙ c.if-too_large.false) in
     here ∙ length_passed in
-    let three_passed : from 3 (start3) ≡ from 0 (start3) =
-    let here : from 3 (start3) ≡ from 2 (start3) = simp (le-ltb _ _ c.if-room-lt3.false) in
+    let three_passed : from 3 ≡ from 0 =
+    let here : from 3 ≡ from 2 = simp (le-ltb _ _ c.if-room-lt3.false) in
     here ∙ level_passed in
-    let compression_passed : from 4 (start4) ≡ from 0 (start4) =
-    let here : from 4 (start4) ≡ from 3 (start4) = simp (sym c.lack_address.ensures ∙ c.if-lack_address.false) in
+    let compression_passed : from 4 ≡ from 0 =
+    let here : from 4 ≡ from 3 = simp (sym c.lack_address.ensures ∙ c.if-lack_address.false) in
     here ∙ three_passed in
     rw (← compression_passed) (simp (sym c.addresses_end.ensures.value, lt-ltb _ _ c.if-room-addresses_end.true))
 
@@ -103,23 +95,19 @@ returns-then-lacks_counter c =
     λ k. let a = c.args in
     first (drop k (write_tests a.kept a.compress a.destination a.source a.security a.counter a.room))
     (Written (long)) in
-    let start2 : tie.Start = c in
-    let start3 : tie.Start = start2 in
-    let start4 : tie.Start = start3 in
-    let start5 : tie.Start = start4 in
     let right : c.args.kept ≡ long = omega (arith, c.if-kept-parts_length.false, c.parts_length.ensures.value) in
     let length_passed : from 1 ≡ from 0 = simp (eq-eqb _ _ (right)) in
-    let level_passed : from 2 (start2) ≡ from 0 (start2) =
-    let here : from 2 (start2) ≡ from 1 (start2) = simp (sym c.too_large.ensures ∙ c.if-too_large.false) in
+    let level_passed : from 2 ≡ from 0 =
+    let here : from 2 ≡ from 1 = simp (sym c.too_large.ensures ∙ c.if-too_large.false) in
     here ∙ length_passed in
-    let three_passed : from 3 (start3) ≡ from 0 (start3) =
-    let here : from 3 (start3) ≡ from 2 (start3) = simp (le-ltb _ _ c.if-room-lt3.false) in
+    let three_passed : from 3 ≡ from 0 =
+    let here : from 3 ≡ from 2 = simp (le-ltb _ _ c.if-room-lt3.false) in
     here ∙ level_passed in
-    let compression_passed : from 4 (start4) ≡ from 0 (start4) =
-    let here : from 4 (start4) ≡ from 3 (start4) = simp (sym c.lack_address.ensures ∙ c.if-lack_address.false) in
+    let compression_passed : from 4 ≡ from 0 =
+    let here : from 4 ≡ from 3 = simp (sym c.lack_address.ensures ∙ c.if-lack_address.false) in
     here ∙ three_passed in
-    let addresses_passed : from 5 (start5) ≡ from 0 (start5) =
-    let here : from 5 (start5) ≡ from 4 (start5) = simp (sym c.addresses_end.ensures.value, le-ltb _ _ c.if-room-addresses_end.false) in
+    let addresses_passed : from 5 ≡ from 0 =
+    let here : from 5 ≡ from 4 = simp (sym c.addresses_end.ensures.value, le-ltb _ _ c.if-room-addresses_end.false) in
     here ∙ compression_passed in
     rw (← addresses_passed) (simp (sym c.lacks_counter.ensures ∙ c.if-lacks_counter.true))
 
@@ -127,68 +115,56 @@ pub returns-then-room-kept : goal.returns-then-room-kept
 unfolding write_parts
 returns-then-room-kept c =
     let long : ℕ = let a = c.args in parts_length a.compress a.destination a.source a.security in
-    let start2 : tie.Start = c in
-    let start3 : tie.Start = start2 in
-    let start4 : tie.Start = start3 in
-    let start5 : tie.Start = start4 in
-    let start6 : tie.Start = start5 in
     let from : ℕ → HeaderWritten =
     λ k. let a = c.args in
     first (drop k (write_tests a.kept a.compress a.destination a.source a.security a.counter a.room))
     (Written (long)) in
     let right : c.args.kept ≡ long = omega (arith, c.if-kept-parts_length.false, c.parts_length.ensures.value) in
     let length_passed : from 1 ≡ from 0 = simp (eq-eqb _ _ (right)) in
-    let level_passed : from 2 (start2) ≡ from 0 (start2) =
-    let here : from 2 (start2) ≡ from 1 (start2) = simp (sym c.too_large.ensures ∙ c.if-too_large.false) in
+    let level_passed : from 2 ≡ from 0 =
+    let here : from 2 ≡ from 1 = simp (sym c.too_large.ensures ∙ c.if-too_large.false) in
     here ∙ length_passed in
-    let three_passed : from 3 (start3) ≡ from 0 (start3) =
-    let here : from 3 (start3) ≡ from 2 (start3) = simp (le-ltb _ _ c.if-room-lt3.false) in
+    let three_passed : from 3 ≡ from 0 =
+    let here : from 3 ≡ from 2 = simp (le-ltb _ _ c.if-room-lt3.false) in
     here ∙ level_passed in
-    let compression_passed : from 4 (start4) ≡ from 0 (start4) =
-    let here : from 4 (start4) ≡ from 3 (start4) = simp (sym c.lack_address.ensures ∙ c.if-lack_address.false) in
+    let compression_passed : from 4 ≡ from 0 =
+    let here : from 4 ≡ from 3 = simp (sym c.lack_address.ensures ∙ c.if-lack_address.false) in
     here ∙ three_passed in
-    let addresses_passed : from 5 (start5) ≡ from 0 (start5) =
-    let here : from 5 (start5) ≡ from 4 (start5) = simp (sym c.addresses_end.ensures.value, le-ltb _ _ c.if-room-addresses_end.false) in
+    let addresses_passed : from 5 ≡ from 0 =
+    let here : from 5 ≡ from 4 = simp (sym c.addresses_end.ensures.value, le-ltb _ _ c.if-room-addresses_end.false) in
     here ∙ compression_passed in
-    let counter_passed : from 6 (start6) ≡ from 0 (start6) =
-    let here : from 6 (start6) ≡ from 5 (start6) = simp (sym c.lacks_counter.ensures ∙ c.if-lacks_counter.false) in
+    let counter_passed : from 6 ≡ from 0 =
+    let here : from 6 ≡ from 5 = simp (sym c.lacks_counter.ensures ∙ c.if-lacks_counter.false) in
     here ∙ addresses_passed in
-    let told : (start6).args.kept ≡ long (start6) = right in
-    let room = (start6).args.room in
-    let short : ltb room (long (start6)) ≡ true = ap (ltb room) (sym (told)) ∙ lt-ltb _ _ c.if-room-kept.true in
+    let told : c.args.kept ≡ long = right in
+    let short : ltb c.args.room (long) ≡ true = ap (ltb c.args.room) (sym (told)) ∙ lt-ltb _ _ c.if-room-kept.true in
     rw (← counter_passed) (simp short)
 
 pub returns : goal.returns
 unfolding write_parts
 returns c =
     let long : ℕ = let a = c.args in parts_length a.compress a.destination a.source a.security in
-    let start2 : tie.Start = c in
-    let start3 : tie.Start = start2 in
-    let start4 : tie.Start = start3 in
-    let start5 : tie.Start = start4 in
-    let start6 : tie.Start = start5 in
     let from : ℕ → HeaderWritten =
     λ k. let a = c.args in
     first (drop k (write_tests a.kept a.compress a.destination a.source a.security a.counter a.room))
     (Written (long)) in
     let right : c.args.kept ≡ long = omega (arith, c.if-kept-parts_length.false, c.parts_length.ensures.value) in
     let length_passed : from 1 ≡ from 0 = simp (eq-eqb _ _ (right)) in
-    let level_passed : from 2 (start2) ≡ from 0 (start2) =
-    let here : from 2 (start2) ≡ from 1 (start2) = simp (sym c.too_large.ensures ∙ c.if-too_large.false) in
+    let level_passed : from 2 ≡ from 0 =
+    let here : from 2 ≡ from 1 = simp (sym c.too_large.ensures ∙ c.if-too_large.false) in
     here ∙ length_passed in
-    let three_passed : from 3 (start3) ≡ from 0 (start3) =
-    let here : from 3 (start3) ≡ from 2 (start3) = simp (le-ltb _ _ c.if-room-lt3.false) in
+    let three_passed : from 3 ≡ from 0 =
+    let here : from 3 ≡ from 2 = simp (le-ltb _ _ c.if-room-lt3.false) in
     here ∙ level_passed in
-    let compression_passed : from 4 (start4) ≡ from 0 (start4) =
-    let here : from 4 (start4) ≡ from 3 (start4) = simp (sym c.lack_address.ensures ∙ c.if-lack_address.false) in
+    let compression_passed : from 4 ≡ from 0 =
+    let here : from 4 ≡ from 3 = simp (sym c.lack_address.ensures ∙ c.if-lack_address.false) in
     here ∙ three_passed in
-    let addresses_passed : from 5 (start5) ≡ from 0 (start5) =
-    let here : from 5 (start5) ≡ from 4 (start5) = simp (sym c.addresses_end.ensures.value, le-ltb _ _ c.if-room-addresses_end.false) in
+    let addresses_passed : from 5 ≡ from 0 =
+    let here : from 5 ≡ from 4 = simp (sym c.addresses_end.ensures.value, le-ltb _ _ c.if-room-addresses_end.false) in
     here ∙ compression_passed in
-    let counter_passed : from 6 (start6) ≡ from 0 (start6) =
-    let here : from 6 (start6) ≡ from 5 (start6) = simp (sym c.lacks_counter.ensures ∙ c.if-lacks_counter.false) in
+    let counter_passed : from 6 ≡ from 0 =
+    let here : from 6 ≡ from 5 = simp (sym c.lacks_counter.ensures ∙ c.if-lacks_counter.false) in
     here ∙ addresses_passed in
-    let told : (start6).args.kept ≡ long (start6) = right in
-    let room = (start6).args.room in
-    let enough : ltb room (long (start6)) ≡ false = ap (ltb room) (sym (told)) ∙ le-ltb _ _ c.if-room-kept.false in
+    let told : c.args.kept ≡ long = right in
+    let enough : ltb c.args.room (long) ≡ false = ap (ltb c.args.room) (sym (told)) ∙ le-ltb _ _ c.if-room-kept.false in
     rw (← counter_passed) (simp enough (ap Written (told)))

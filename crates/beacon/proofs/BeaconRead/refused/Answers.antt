@@ -1,0 +1,7 @@
+-- `beacon::BeaconRead::refused` meets its contract.
+-- Assumes nothing.
+use borrow.Author.Rules.{rules}
+use Rattle.beacon.proofs.BeaconRead.refused.Goals as goal
+
+pub returns : goal.returns
+returns c = simp (c.refused.ensures, c.new-beacon.ensures)

@@ -1,8 +1,0 @@
--- `beacon::BeaconRead::refused` meets its contract.
--- Assumes nothing.
-use borrow.Author.Rules.{rules}
-use Rattle.beacon.proofs.BeaconRead.refused.Statement.{statement}
-use Rattle.beacon.proofs.BeaconRead.refused.Tie as tie
-
-pub refused_spec : {M : Type 1} → statement M
-refused_spec = tie.close (tie.spec (λ c κs. search rules) (λ c κs. search rules) (λ c. simp (c.refused.ensures, c.before.new.ensures)))
