@@ -1,9 +1,11 @@
 // Reading and writing of the line programs: standard input a chunk at a time, standard output whole. A call that a
 // signal interrupts is made again; any other error is told on standard error. What is read, and what is written where a
 // write fails, no contract can say.
-ghost use Rattle.io.specs.Counts.{IsPrefixLen};
+#![tactic(auto)]
 
-use libc::{STDERR_FILENO, STDIN_FILENO, STDOUT_FILENO};
+ghost use Rattle.line_io.specs.Counts.{IsPrefixLen};
+
+use std::io::{Error, ErrorKind, Read};
 
 // What comes next: more of the input, its end, or nothing, since an error was told.
 pub const MORE: u8 = 0;
@@ -20,36 +22,34 @@ pub struct Got {
 }
 
 // Whether the call that has just failed was interrupted; any other error is told.
-fn interrupted(what: &[u8]) -> bool {
-    if os::errno() == libc::EINTR {
+fn interrupted(rt: &impl Eprint, what: &str, error: Error) -> bool {
+    if error.kind() == ErrorKind::Interrupted {
         return true;
     }
-    os::fail(what);
+    let _ = eprintln!(rt; "{what}: {error}");
     false
 }
 
 // Reads once into a chunk, from its beginning. Only where there is more has anything been read. (A proved loop has to
-// end, so it counts down from a number that no run uses up.)
-pub fn read_some(chunk: &mut [u8]) -> Got
+// end, so it counts up to a number that no run reaches.)
+pub fn read_some(rt: &(impl Input + Eprint), chunk: &mut [u8]) -> Got
     ensures { IsPrefixLen result.count chunk.new }
 {
-    let mut tries = u64::MAX;
-    while tries > 0 {
-        let got = libc::read(STDIN_FILENO, chunk);
-        if got > 0 {
-            let count = io::count(got, chunk);
-            return Got { count, next: MORE };
+    for _ in 0..u64::MAX {
+        match rt.reader().read(chunk) {
+            Ok(0) => {
+                return Got {
+                    count: 0,
+                    next: ENDED,
+                };
+            }
+            Ok(count) => return Got { count, next: MORE },
+            Err(error) => {
+                if !interrupted(rt, "read", error) {
+                    break;
+                }
+            }
         }
-        if got == 0 {
-            return Got {
-                count: 0,
-                next: ENDED,
-            };
-        }
-        if !interrupted(b"read") {
-            break;
-        }
-        tries -= 1;
     }
     Got {
         count: 0,
@@ -58,21 +58,24 @@ pub fn read_some(chunk: &mut [u8]) -> Got
 }
 
 // Writes all bytes and answers true; or tells what failed, when some may have been written, and answers false.
-pub fn write_all(bytes: &[u8]) -> bool {
+pub fn write_all(rt: &(impl Print + Eprint), bytes: &[u8]) -> bool {
     let mut done = 0;
-    let mut tries = u64::MAX;
-    while done < bytes.len() && tries > 0 {
-        let rest = &bytes[done..];
-        let put = libc::write(STDOUT_FILENO, rest);
-        if put == 0 {
-            io::write_all(STDERR_FILENO, b"write: nothing was taken\n");
-            return false;
+    for _ in 0..u64::MAX {
+        if done >= bytes.len() {
+            break;
         }
-        if put < 0 && !interrupted(b"write") {
-            return false;
+        match rt.write_some(&bytes[done..]) {
+            Ok(0) => {
+                let _ = eprintln!(rt; "write: nothing was taken");
+                return false;
+            }
+            Ok(put) => done += put,
+            Err(error) => {
+                if !interrupted(rt, "write", error) {
+                    return false;
+                }
+            }
         }
-        done += io::count(put, rest);
-        tries -= 1;
     }
     done == bytes.len()
 }
