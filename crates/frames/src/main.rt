@@ -1,5 +1,7 @@
 // The line program: for each line of standard input, a label and a frame in hex, its label with the header's refusal
 // number and length. The work is done by `lines`, the reading and writing by `line_io`.
+#![tactic(auto)]
+
 ghost use Rattle.octets.specs.Words.{◌+◌, ◌*◌, ◌≤◌, ◌≡◌, length, take};
 ghost use Rattle.octets.specs.Buffer.{laid};
 ghost use Rattle.line_cutter.specs.Answers.{answers, fed_to};
@@ -27,7 +29,13 @@ struct Turn {
 
 // Reads once, and writes the answers to the lines that end in what was read. Whatever that is, the first got bytes of
 // chunk, it is what is fed, and what is fed leads to is what is to be written.
-fn take_turn(chunk: &mut [u8], line: &mut [u8], n: usize, out: &mut [u8]) -> Turn
+fn take_turn(
+    rt: &(impl Input + Print + Eprint),
+    chunk: &mut [u8],
+    line: &mut [u8],
+    n: usize,
+    out: &mut [u8],
+) -> Turn
     requires n_le_kept_most { n ≤ kept_most }
     requires line_len { length line.old ≡ kept_most }
     requires chunk_in_bounds { kept_most + 5 * length chunk.old ≤ length out.old }
@@ -35,11 +43,11 @@ fn take_turn(chunk: &mut [u8], line: &mut [u8], n: usize, out: &mut [u8]) -> Tur
         ≡ fed_to answer (take n line.old) (take result.got chunk.new) out.entry.now 0 }
     ensures n_le_kept_most_2 { result.n ≤ kept_most }
 {
-    let got = line_io::read_some(chunk);
+    let got = line_io::read_some(rt, chunk);
     let count = got.count;
     let fed = lines::feed(&chunk[..count], line, n, out);
     let used = fed.used;
-    let good = line_io::write_all(&out[..used]);
+    let good = line_io::write_all(rt, &out[..used]);
     Turn {
         n: fed.n,
         got: count,
@@ -49,7 +57,7 @@ fn take_turn(chunk: &mut [u8], line: &mut [u8], n: usize, out: &mut [u8]) -> Tur
 }
 
 // Writes the answer to a last line that was not ended.
-fn end(line: &[u8], n: usize, out: &mut [u8])
+fn end(rt: &(impl Print + Eprint), line: &[u8], n: usize, out: &mut [u8])
     requires n_le_kept_most { n ≤ kept_most }
     requires line_len { length line.now ≡ kept_most }
     requires kept_most_in_bounds { kept_most + 5 ≤ length out.old }
@@ -57,25 +65,26 @@ fn end(line: &[u8], n: usize, out: &mut [u8])
         ≡ laid out.old 0 (answers answer (last (take n line.now))) }
 {
     let used = lines::finish(line, n, out);
-    line_io::write_all(&out[..used]);
+    line_io::write_all(rt, &out[..used]);
 }
 
-// A proved loop has to end, and nothing says that the input does, so the loop counts its turns down from a number that
-// no run uses up.
-fn main() {
+// A proved loop has to end, and nothing says that the input does, so the loop counts its turns, up to a number that no
+// run reaches.
+fn main(rt: HostRuntime) {
     let mut chunk = [0u8; CHUNK];
     let mut line = [0u8; KEPT_MOST];
     let mut out = [0u8; ROOM];
     let mut n = 0;
     let mut next = MORE;
-    let mut turns = u64::MAX;
-    while turns > 0 && next == MORE {
-        let turn = take_turn(&mut chunk, &mut line, n, &mut out);
+    for _ in 0..u64::MAX {
+        if next != MORE {
+            break;
+        }
+        let turn = take_turn(&rt, &mut chunk, &mut line, n, &mut out);
         n = turn.n;
         next = turn.next;
-        turns -= 1;
     }
     if next == ENDED {
-        end(&line, n, &mut out);
+        end(&rt, &line, n, &mut out);
     }
 }

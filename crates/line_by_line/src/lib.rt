@@ -2,6 +2,8 @@
 // other in a buffer that the program lends, and writes the answers that the program collects in another. They are
 // written before more of the input is waited for, since the other side may wait for them, and where little room is
 // left.
+#![tactic(auto)]
+
 ghost use Rattle.octets.specs.Words.{◌≤◌, ◌≡◌, length};
 ghost use Rattle.line_by_line.specs.Held.{held, line_after, afresh, Roomy, Ready, HandsOver};
 
@@ -40,12 +42,12 @@ impl Turn {
 }
 
 // Writes the answers that wait. Where that fails, nothing more is to be used.
-fn flush(turn: Turn, out: &[u8]) -> Turn
+fn flush(rt: &(impl Print + Eprint), turn: Turn, out: &[u8]) -> Turn
     ensures used_value { result.used ≡ 0 }
     ensures n_value { result.n ≡ turn.n }
 {
     let used = least(turn.used, out.len());
-    if write_all(&out[..used]) {
+    if write_all(rt, &out[..used]) {
         return Turn { used: 0, ..turn };
     }
     Turn {
@@ -58,28 +60,28 @@ fn flush(turn: Turn, out: &[u8]) -> Turn
 }
 
 // For a new line: writes the answers that wait where they leave too little room for another.
-fn make_room(turn: Turn, out: &[u8]) -> Turn
+fn make_room(rt: &(impl Print + Eprint), turn: Turn, out: &[u8]) -> Turn
     ensures n_value { result.n ≡ 0 }
     ensures used_in_bounds { result.used ≤ length out.now }
     ensures value { Roomy turn out.now → result ≡ afresh turn }
 {
     let fresh = Turn { n: 0, ..turn };
     if left(out, turn.used) < ANSWER_MOST {
-        return flush(fresh, out);
+        return flush(rt, fresh, out);
     }
     fresh
 }
 
 // Writes the answers that wait, and reads once where the input goes on.
-fn refill(turn: Turn, chunk: &mut [u8], out: &[u8]) -> Turn
+fn refill(rt: &(impl Input + Print + Eprint), turn: Turn, chunk: &mut [u8], out: &[u8]) -> Turn
     ensures used_value { result.used ≡ 0 }
     ensures n_value { result.n ≡ turn.n }
 {
-    let flushed = flush(turn, out);
+    let flushed = flush(rt, turn, out);
     if flushed.next != MORE {
         return flushed;
     }
-    let got = read_some(chunk);
+    let got = read_some(rt, chunk);
     Turn {
         at: 0,
         end: got.count,
@@ -108,12 +110,18 @@ fn take_held(turn: Turn, chunk: &[u8], line: &mut [u8]) -> Turn
 
 // Reads on till the line at hand ends or the input does, where a last line need not be ended. (A proved loop has to
 // end, and nothing says that the input does: the turns are counted, up to a number that no run reaches.)
-fn read_on(turn: Turn, chunk: &mut [u8], line: &mut [u8], out: &[u8]) -> Turn
+fn read_on(
+    rt: &(impl Input + Print + Eprint),
+    turn: Turn,
+    chunk: &mut [u8],
+    line: &mut [u8],
+    out: &[u8],
+) -> Turn
     requires { turn.n ≤ length line.old }
     ensures n_in_bounds { result.n ≤ length line.old }
     ensures used_value { result.used ≡ 0 }
 {
-    let mut turn = refill(turn, chunk, out);
+    let mut turn = refill(rt, turn, chunk, out);
     for _ in 0..u64::MAX {
         if turn.next != MORE {
             break;
@@ -122,7 +130,7 @@ fn read_on(turn: Turn, chunk: &mut [u8], line: &mut [u8], out: &[u8]) -> Turn
         if turn.found {
             return turn;
         }
-        turn = refill(turn, chunk, out);
+        turn = refill(rt, turn, chunk, out);
     }
     Turn {
         found: turn.next == ENDED && turn.n > 0,
@@ -132,16 +140,22 @@ fn read_on(turn: Turn, chunk: &mut [u8], line: &mut [u8], out: &[u8]) -> Turn
 
 // The next line: where one is found, its first n bytes stand in the buffer, as many as have room. After the last line
 // none is found, nor after an error, which is told on standard error. What was collected has then been written.
-pub fn next_line(turn: Turn, chunk: &mut [u8], line: &mut [u8], out: &[u8]) -> Turn
+pub fn next_line(
+    rt: &(impl Input + Print + Eprint),
+    turn: Turn,
+    chunk: &mut [u8],
+    line: &mut [u8],
+    out: &[u8],
+) -> Turn
     ensures n_in_bounds { result.n ≤ length line.old }
     ensures used_in_bounds { result.used ≤ length out.now }
     ensures hands_over { Ready turn chunk.old out.now
         → HandsOver turn chunk.old line.old result chunk.new line.new }
 {
-    let ready = make_room(turn, out);
+    let ready = make_room(rt, turn, out);
     let held = take_held(ready, chunk, line);
     if held.found {
         return held;
     }
-    read_on(held, chunk, line, out)
+    read_on(rt, held, chunk, line, out)
 }

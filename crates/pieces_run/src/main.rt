@@ -1,6 +1,8 @@
 // The program that tries the reader of pieces: for each line of standard input, a label and the pieces of a header in
 // hex, its label with what the reader answers. It prints what the library answers, and what it prints is compared: so
 // it is proved safe, within bounds and ending, and its functions promise nothing else.
+#![tactic(auto)]
+
 mod telling;
 
 use hexadecimal::values;
@@ -10,14 +12,14 @@ use telling::put_answer;
 
 // A proved loop has to end, and nothing says that the input does: the lines are counted, up to a number that no run
 // reaches.
-fn main() {
+fn main(rt: HostRuntime) {
     let values = values();
     let mut chunk = [0u8; CHUNK];
     let mut line = [0u8; KEPT_MOST];
     let mut out = [0u8; CHUNK];
     let mut turn = Turn::START;
     for _ in 0..u64::MAX {
-        turn = next_line(turn, &mut chunk, &mut line, &out);
+        turn = next_line(&rt, turn, &mut chunk, &mut line, &out);
         if !turn.found {
             break;
         }

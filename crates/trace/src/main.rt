@@ -1,6 +1,8 @@
 // The trace program, for the dispatcher: from the lines of a trace on standard input, whose frames went missing. Each
 // line that is answered 10 or 11 is told as it is met, and in the end each sender with its frames, repeats and missing
 // frames, and the other counts. Reading and writing are done by `line_io`.
+#![tactic(auto)]
+
 mod counting;
 mod telling;
 
@@ -261,6 +263,7 @@ fn feed(
 // Reads once, and writes what is to be written for the lines that end in what was read. Whatever that is, the first got
 // bytes of chunk, it is what is fed, and what is fed leads to is what is to be written.
 fn take_turn(
+    rt: &(impl Input + Print + Eprint),
     chunk: &mut [u8],
     line: &mut [u8],
     n: usize,
@@ -284,11 +287,11 @@ fn take_turn(
     ensures within_2 { Within (trace_of result.counts table.new) }
     ensures n_le_kept_most_2 { result.n ≤ kept_most }
 {
-    let got = line_io::read_some(chunk);
+    let got = line_io::read_some(rt, chunk);
     let got_bytes = got.count;
     let fed = feed(&chunk[..got_bytes], line, n, counts, table, out);
     let used = fed.used;
-    let good = line_io::write_all(&out[..used]);
+    let good = line_io::write_all(rt, &out[..used]);
     let counts = fed.counts;
     Turn {
         counts,
@@ -338,9 +341,9 @@ fn close(line: &[u8], n: usize, counts: Counts, table: &mut [u64], out: &mut [u8
     put_summary(counts, &table[..], out, told.used)
 }
 
-// A proved loop has to end, and nothing says that the input does, so the loop counts its turns down from a number that
-// no run uses up.
-fn main() {
+// A proved loop has to end, and nothing says that the input does, so the loop counts its turns, up to a number that no
+// run reaches.
+fn main(rt: HostRuntime) {
     let mut chunk = [0u8; CHUNK];
     let mut line = [0u8; KEPT_MOST];
     let mut table = [0u64; TABLE];
@@ -348,16 +351,17 @@ fn main() {
     let mut counts = Counts::NONE;
     let mut n = 0;
     let mut next = MORE;
-    let mut turns = u64::MAX;
-    while turns > 0 && next == MORE {
-        let turn = take_turn(&mut chunk, &mut line, n, counts, &mut table, &mut out);
+    for _ in 0..u64::MAX {
+        if next != MORE {
+            break;
+        }
+        let turn = take_turn(&rt, &mut chunk, &mut line, n, counts, &mut table, &mut out);
         counts = turn.counts;
         n = turn.n;
         next = turn.next;
-        turns -= 1;
     }
     if next == ENDED {
         let used = close(&line, n, counts, &mut table, &mut out);
-        line_io::write_all(&out[..used]);
+        line_io::write_all(&rt, &out[..used]);
     }
 }
