@@ -14,7 +14,7 @@ const LINES_MOST: u64 = 1000000;
 
 // How many of the first lines there were, and rows of the table of senders in use; refused frames, frames that name no
 // source, lines answered 10, and lines answered 11.
-#[derive(Drop)]
+#[derive(Clone, Copy)]
 pub struct Counts {
     pub lines: u64,
     pub rows: usize,
