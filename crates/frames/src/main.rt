@@ -39,8 +39,8 @@ fn take_turn(
     requires n_le_kept_most { n ≤ kept_most }
     requires line_len { length line.old ≡ kept_most }
     requires chunk_in_bounds { kept_most + 5 * length chunk.old ≤ length out.old }
-    ensures line_after { record { out = out.exit.now; used = result.used; kept = take result.n line.new }
-        ≡ fed_to answer (take n line.old) (take result.got chunk.new) out.entry.now 0 }
+    ensures line_after { record { out = out.new; used = result.used; kept = take result.n line.new }
+        ≡ fed_to answer (take n line.old) (take result.got chunk.new) out.old 0 }
     ensures n_le_kept_most_2 { result.n ≤ kept_most }
 {
     let got = line_io::read_some(rt, chunk);
