@@ -1,6 +1,7 @@
 -- The answer to one line, given without its line feed: its label, what rewriting its frame answers (number and length),
 -- and every bit that this alters.
-use Rattle.octets.specs.Words.{ℕ, List, [], ◌∷◌, ◌++◌, flat_map}
+use Rattle.std.specs.Prelude.{ℕ, List, [], ◌∷◌, ◌++◌}
+use Rattle.octets.specs.Words.{flat_map}
 use Rattle.octets.specs.{declared.Outcome.Outcome}
 use Rattle.line_cutter.specs.{Line.tab_byte, Line.line_feed}
 use Rattle.labelled.specs.{Answer.labelled, Decimal.decimal}

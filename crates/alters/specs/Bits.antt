@@ -1,5 +1,6 @@
 -- The bits that masks stand for, each as the place of its byte and its number there, in order.
-use Rattle.octets.specs.Words.{ℕ, zero, suc, cond, List, [], ◌∷◌, ◌++◌, flat_map}
+use Rattle.std.specs.Prelude.{ℕ, zero, suc, cond, List, [], ◌∷◌, ◌++◌}
+use Rattle.octets.specs.Words.{flat_map}
 use Rattle.octets.specs.{Bits.bit}
 
 -- those below bit k of the byte at a place that are set in its mask

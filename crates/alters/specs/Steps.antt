@@ -1,5 +1,5 @@
 -- What the program's own functions tell on the way to an answer: no part of its definition.
-use Rattle.octets.specs.Words.{ℕ, zero, suc, List, [], ◌∷◌, ◌++◌, get_or}
+use Rattle.std.specs.Prelude.{ℕ, zero, suc, List, [], ◌∷◌, ◌++◌, get_or}
 use Rattle.alters.specs.{Answer.space, Answer.told, Bits.bits_below}
 
 -- the bits of count bytes whose places and masks stand in two arrays

@@ -4,7 +4,7 @@
 
 mod telling;
 
-ghost use Rattle.octets.specs.Words.{◌+◌, ◌-◌, ◌*◌, ◌≤◌, ◌<◌, ◌≡◌, length, take, drop};
+ghost use Rattle.std.specs.Prelude.{◌+◌, ◌-◌, ◌*◌, ◌≤◌, ◌<◌, ◌≡◌, length, take, drop};
 ghost use Rattle.octets.specs.Buffer.{laid};
 ghost use Rattle.hexadecimal.specs.Hex.{worths};
 ghost use Rattle.line_cutter.specs.Answers.{Onward, answers, fed_to};

@@ -1,5 +1,5 @@
 // The answer to one line, stored into a buffer: as much of it as has room.
-ghost use Rattle.octets.specs.Words.{◌≤◌, ◌∷◌, ◌≡◌, length};
+ghost use Rattle.std.specs.Prelude.{◌≤◌, ◌∷◌, ◌≡◌, length};
 ghost use Rattle.hexadecimal.specs.Hex.{worths};
 ghost use Rattle.line_cutter.specs.Line.{tab_byte};
 ghost use Rattle.labelled.specs.Put.{Put};

@@ -2,7 +2,7 @@
 // number and length. The work is done by `lines`, the reading and writing by `line_io`.
 #![tactic(auto)]
 
-ghost use Rattle.octets.specs.Words.{◌+◌, ◌*◌, ◌≤◌, ◌≡◌, length, take};
+ghost use Rattle.std.specs.Prelude.{◌+◌, ◌*◌, ◌≤◌, ◌≡◌, length, take};
 ghost use Rattle.octets.specs.Buffer.{laid};
 ghost use Rattle.line_cutter.specs.Answers.{answers, fed_to};
 ghost use Rattle.line_cutter.specs.Line.{kept_most};

@@ -1,5 +1,5 @@
 -- What is handed over of a chunk without reading more of the input.
-use Rattle.octets.specs.Words.{ℕ, ◌-◌, ◌≤◌, ◌≡◌, true, List, length, take, drop}
+use Rattle.std.specs.Prelude.{ℕ, ◌-◌, ◌≤◌, ◌≡◌, true, List, length, take, drop}
 use Rattle.octets.specs.Buffer.{laid, fitting}
 use Rattle.line_cutter.specs.Line.{line_of, line_ends, taken}
 use Rattle.line_by_line.specs.declared.Turn.{Turn}

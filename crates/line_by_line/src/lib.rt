@@ -4,7 +4,7 @@
 // left.
 #![tactic(auto)]
 
-ghost use Rattle.octets.specs.Words.{◌≤◌, ◌≡◌, length};
+ghost use Rattle.std.specs.Prelude.{◌≤◌, ◌≡◌, length};
 ghost use Rattle.line_by_line.specs.Held.{held, line_after, afresh, Roomy, Ready, HandsOver};
 
 use line_cutter::cut;

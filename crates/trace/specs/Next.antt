@@ -1,5 +1,5 @@
 -- The next line of a chunk, or what there is of it: how a step through the chunk goes on.
-use Rattle.octets.specs.Words.{ℕ, ◌+◌, ◌≡◌, true, false, List, [], length, take, drop}
+use Rattle.std.specs.Prelude.{ℕ, ◌+◌, ◌≡◌, true, false, List, [], length, take, drop}
 use Rattle.octets.specs.{Stored.Stored}
 use Rattle.line_cutter.specs.{Answers.Onward, Telling.worked_to}
 use Rattle.trace_line.specs.{declared.Saying.Saying, Saying.Spoken}

@@ -1,6 +1,7 @@
 -- What is written for a trace, tab-parted lines: each line answered 10 or 11 as it is met, then each sender with its
 -- counts, then the other counts.
-use Rattle.octets.specs.Words.{ℕ, ◌+◌, ◌*◌, cond, List, [], ◌∷◌, ◌++◌, flat_map, eqb}
+use Rattle.std.specs.Prelude.{ℕ, ◌+◌, ◌*◌, cond, List, [], ◌∷◌, ◌++◌, eqb}
+use Rattle.octets.specs.Words.{flat_map}
 use Rattle.line_cutter.specs.{Line.tab_byte, Line.line_feed}
 use Rattle.labelled.specs.{Decimal.column, Hexed.hex_by}
 use Rattle.senders.specs.{declared.Sender.Sender, declared.Counted.Counted, Sender.among}

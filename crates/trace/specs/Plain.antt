@@ -1,6 +1,6 @@
 -- What a trace tells, plainly, over the list of its lines: document 02, request 3, "senders in order of first sight, each
 -- with frames, repeats, missing". Nothing here goes from line to line with a table.
-use Rattle.octets.specs.Words.{ℕ, suc, ◌+◌, ◌-◌, Bool, true, false, cond, List, [], ◌∷◌, ◌++◌, map, length, take, min}
+use Rattle.std.specs.Prelude.{ℕ, suc, ◌+◌, ◌-◌, Bool, true, false, cond, List, [], ◌∷◌, ◌++◌, map, length, take, min}
 use Rattle.senders.specs.{declared.Sender.Sender, declared.Counted.Counted, Sender.same, Sender.among, Counts.counts_of}
 use Rattle.senders.specs.{Hearing.senders_most}
 use Rattle.trace_line.specs.{declared.Saying.Saying, Saying.saying}

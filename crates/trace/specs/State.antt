@@ -1,5 +1,5 @@
 -- What the program keeps of a trace, numbers and a table of senders, and what it then has told.
-use Rattle.octets.specs.Words.{ℕ, cond, List, ltb}
+use Rattle.std.specs.Prelude.{ℕ, cond, List, ltb}
 use Rattle.senders.specs.{Table.counted_in}
 use Rattle.trace_line.specs.{declared.Saying.Saying}
 use Rattle.trace.specs.{declared.counting.Counts.Counts}

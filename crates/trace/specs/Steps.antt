@@ -1,5 +1,5 @@
 -- The same from line to line: what one more line makes of what was told so far, and what is written for it.
-use Rattle.octets.specs.Words.{ℕ, ◌+◌, Bool, false, cond, List, [], ◌∷◌, ◌++◌, ltb, take, min}
+use Rattle.std.specs.Prelude.{ℕ, ◌+◌, Bool, false, cond, List, [], ◌∷◌, ◌++◌, ltb, take, min}
 use Rattle.octets.specs.{Bits.bit_of, Order.first}
 use Rattle.line_cutter.specs.{Line.kept_most, Lines.ended, Lines.begun, Lines.last, Lines.run, Telling.told}
 use Rattle.senders.specs.{declared.Counted.Counted}

@@ -1,5 +1,5 @@
 -- How far counts can go: none passes what 64 bits hold.
-use Rattle.octets.specs.Words.{ℕ, ◌*◌, ◌≤◌, ◌<◌, List, [], ◌∷◌, length}
+use Rattle.std.specs.Prelude.{ℕ, ◌*◌, ◌≤◌, ◌<◌, List, [], ◌∷◌, length}
 use Rattle.senders.specs.{declared.Counted.Counted, Hearing.senders_most}
 use Rattle.trace.specs.Plain.{Trace, lines_most, unread_most}
 

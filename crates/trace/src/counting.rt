@@ -1,5 +1,5 @@
 // What is counted of a trace beside its senders, and one more line of it.
-ghost use Rattle.octets.specs.Words.{◌≡◌, length};
+ghost use Rattle.std.specs.Prelude.{◌≡◌, length};
 ghost use Rattle.senders.specs.Table.{table_length};
 ghost use Rattle.trace_line.specs.Saying.{Spoken};
 ghost use Rattle.trace.specs.Steps.{one_more};

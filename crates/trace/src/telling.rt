@@ -1,6 +1,7 @@
 // What is written of a trace: a line that is answered 10 or 11, and the counts in the end. A store takes as much as has
 // room and returns the place behind it.
-ghost use Rattle.octets.specs.Words.{◌≤◌, ◌*◌, [], ◌∷◌, ◌++◌, flat_map, ◌≡◌, length};
+ghost use Rattle.std.specs.Prelude.{◌≤◌, ◌*◌, [], ◌∷◌, ◌++◌, ◌≡◌, length};
+ghost use Rattle.octets.specs.Words.{flat_map};
 ghost use Rattle.line_cutter.specs.Line.{tab_byte};
 ghost use Rattle.labelled.specs.Decimal.{column};
 ghost use Rattle.labelled.specs.Hexed.{hex_by};

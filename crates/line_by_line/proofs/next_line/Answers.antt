@@ -2,7 +2,7 @@
 -- Assumes nothing.
 use mathlib.Core.Bool.{true, true≢false}
 use Rattle.std.proofs.Common.{sym, ap, ◌∙◌}
-use Rattle.octets.specs.Words.{◌≡◌}
+use Rattle.std.specs.Prelude.{◌≡◌}
 use Rattle.line_by_line.specs.declared.Turn.{Turn}
 use Rattle.line_by_line.specs.Held.{held}
 use Rattle.line_by_line.proofs.Held.{held_found}
