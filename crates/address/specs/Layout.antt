@@ -1,6 +1,6 @@
 -- An address in a frame: document 01, "PAN id (2) and address (2 or 8)", the PAN id left out where it is shared (IEEE
 -- 802.15.4-2011, 5.2.1.3 to 5.2.1.6). Own says that the PAN id is in the frame.
-use Rattle.octets.specs.Words.{ℕ, ◌+◌, ◌^◌, ◌<◌, Bool, true, false, cond, List, [], ◌++◌}
+use Rattle.std.specs.Prelude.{ℕ, ◌+◌, ◌^◌, ◌<◌, Bool, true, false, cond, List, [], ◌++◌}
 use Rattle.octets.specs.Little.{number, split}
 use Rattle.frame_control.specs.declared.{AddressMode.AddressMode}
 use Rattle.identifiers.specs.{declared.PanId.PanId, PanId.pan, ShortAddress.short, ExtendedAddress.extended}

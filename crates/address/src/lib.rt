@@ -3,7 +3,7 @@
 // header's reader and writer measure first.
 #![tactic(auto)]
 
-ghost use Rattle.octets.specs.Words.{◌+◌, ◌-◌, ◌≤◌, min, ◌++◌, ◌≡◌, length};
+ghost use Rattle.std.specs.Prelude.{◌+◌, ◌-◌, ◌≤◌, min, ◌++◌, ◌≡◌, length};
 ghost use Rattle.octets.specs.Buffer.{laid};
 ghost use Rattle.octets.specs.Little.{split};
 ghost use Rattle.address.specs.Address.{pan_of, mode_of_address, mode_of, shared_pan, broadcast_of};

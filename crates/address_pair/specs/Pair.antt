@@ -1,6 +1,6 @@
 -- The two addresses of a header, destination and source, by PAN compression (document 01, "Header layout"; IEEE
 -- 802.15.4-2011, 5.2.1.3 to 5.2.1.6): under compression the source is without a PAN id, which is the destination's.
-use Rattle.octets.specs.Words.{ℕ, ◌+◌, Bool, true, false, not, ◌&&◌, List, ◌++◌, eqb}
+use Rattle.std.specs.Prelude.{ℕ, ◌+◌, Bool, true, false, not, ◌&&◌, List, ◌++◌, eqb}
 use Rattle.header_bytes.specs.Layout.{own_destination, own_source}
 use Rattle.frame_control.specs.Modes.{mode_bits}
 use Rattle.address.specs.{declared.OptionalAddress.OptionalAddress, Address.mode_of, Address.pan_of}

@@ -2,7 +2,7 @@
 // where the addresses end, their bytes, and what compression asks of them.
 #![tactic(auto)]
 
-ghost use Rattle.octets.specs.Words.{◌+◌, ◌-◌, ◌≤◌, min, ◌≡◌, length};
+ghost use Rattle.std.specs.Prelude.{◌+◌, ◌-◌, ◌≤◌, min, ◌≡◌, length};
 ghost use Rattle.octets.specs.Buffer.{laid};
 ghost use Rattle.address_pair.specs.Pair.{pair_end, pair_bytes, both_present, pair_lacks, pair_shares};
 

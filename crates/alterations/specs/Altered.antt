@@ -1,6 +1,6 @@
 -- The bits that rewriting a given frame alters: those that are set in the frame and listed for its parts.
-use Rattle.octets.specs.Words.{ℕ, ◌+◌, ◌^◌, Bool, cond, not, ◌&&◌, List, [], ◌∷◌, ◌++◌, map, eqb, length}
-use Rattle.octets.specs.Words.{get_or, take, drop, replicate}
+use Rattle.std.specs.Prelude.{ℕ, ◌+◌, ◌^◌, Bool, cond, not, ◌&&◌, List, [], ◌∷◌, ◌++◌, map, eqb, length}
+use Rattle.std.specs.Prelude.{get_or, take, drop, replicate}
 use Rattle.octets.specs.{declared.Outcome.Outcome, Bits.bit, Buffer.laid}
 use Rattle.beacon.specs.Beacon.{refuses}
 use Rattle.alterations.specs.{declared.Alterations.Alterations, Listed.listed, Rewriting.rewrite_frame}

@@ -1,6 +1,6 @@
 -- The bits that rewriting a given frame may alter, document 01, "Bits that writing clears": for each byte of the
 -- frame's parts that has some, in the order of the bytes, its place and the numbers of those bits.
-use Rattle.octets.specs.Words.{ℕ, zero, suc, ◌+◌, Bool, cond, not, ◌&&◌, List, [], ◌∷◌, ◌++◌, eqb, drop}
+use Rattle.std.specs.Prelude.{ℕ, zero, suc, ◌+◌, Bool, cond, not, ◌&&◌, List, [], ◌∷◌, ◌++◌, eqb, drop}
 use Rattle.octets.specs.{Bits.bits, Bits.bit, Little.number}
 use Rattle.header_bytes.specs.Layout.{source_end, header_end}
 use Rattle.time_slots.specs.TimeSlots.{slot_count_in}

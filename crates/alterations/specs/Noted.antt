@@ -1,5 +1,5 @@
 -- A list noted down in two arrays, its places in one and its masks in the other.
-use Rattle.octets.specs.Words.{ℕ, ◌+◌, List, map, ◌≡◌, length}
+use Rattle.std.specs.Prelude.{ℕ, ◌+◌, List, map, ◌≡◌, length}
 use Rattle.octets.specs.Buffer.{laid}
 
 -- the arrays were p and m with count entries in use; with l noted behind these they are q and n, with r in use

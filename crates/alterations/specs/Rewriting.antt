@@ -1,7 +1,7 @@
 -- What rewriting a frame answers, as a bridge does it: its header is read and, where it holds a beacon, the beacon;
 -- then both are written again, with the counter that was read and with room. Reading's refusals come before writing's,
 -- of which 6 alone is left, "writing: compression set, either address missing".
-use Rattle.octets.specs.Words.{ℕ, ◌+◌, cond, ◌&&◌, List, [], ◌∷◌, ◌++◌}
+use Rattle.std.specs.Prelude.{ℕ, ◌+◌, cond, ◌&&◌, List, [], ◌∷◌, ◌++◌}
 use Rattle.octets.specs.declared.{Outcome.Outcome}
 use Rattle.octets.specs.{Order.first, Outcome.accepted, Outcome.refused, Little.number}
 use Rattle.header_bytes.specs.{Layout.header_end, Reading.measured, Rewriting.sourceless, Cleared.header_cleared}

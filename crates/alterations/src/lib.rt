@@ -3,7 +3,7 @@
 // beacon behind it.
 #![tactic(auto)]
 
-ghost use Rattle.octets.specs.Words.{◌+◌, ◌≤◌, ◌<◌, false, [], ◌∷◌, ◌≡◌, length, get_or};
+ghost use Rattle.std.specs.Prelude.{◌+◌, ◌≤◌, ◌<◌, false, [], ◌∷◌, ◌≡◌, length, get_or};
 ghost use Rattle.octets.specs.Bits.{bit};
 ghost use Rattle.alterations.specs.Listed.{header_bits, direction_bits, beacon_bits, holds_beacon};
 ghost use Rattle.alterations.specs.Rewriting.{rewrite_frame};

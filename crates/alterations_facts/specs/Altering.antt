@@ -1,5 +1,5 @@
 -- The engineer's rule: every bit that rewriting alters is named before it is written.
-use Rattle.octets.specs.Words.{ℕ, ◌≤◌, ◌<◌, true, not, ◌&&◌, List, [], ◌++◌, ◌≡◌, eqb, length, take, drop}
+use Rattle.std.specs.Prelude.{ℕ, ◌≤◌, ◌<◌, true, not, ◌&&◌, List, [], ◌++◌, ◌≡◌, eqb, length, take, drop}
 use Rattle.octets.specs.{Outcome.accepted}
 use Rattle.header.specs.Read.{read_header}
 use Rattle.alterations.specs.{Listed.listed, Altered.altered, Altered.told, Altered.alterations, Altered.leaves_alone}

@@ -1,6 +1,6 @@
 -- What a bridge does with a frame, in the definitions that the contracts cite: of `Header::read` and `Header::write`,
 -- `Beacon::read` and `Beacon::write`, and of the C entries that rewrite.
-use Rattle.octets.specs.Words.{ℕ, ◌+◌, cond, ◌&&◌, List, [], ◌∷◌, ◌++◌, length, take, drop}
+use Rattle.std.specs.Prelude.{ℕ, ◌+◌, cond, ◌&&◌, List, [], ◌∷◌, ◌++◌, length, take, drop}
 use Rattle.octets.specs.{declared.Outcome.Outcome, Order.first, Outcome.accepted, Outcome.refused}
 use Rattle.octets.specs.{Buffer.after, Little.number}
 use Rattle.header_bytes.specs.{Layout.header_end, Cleared.header_cleared, Rewriting.rewrite_header}

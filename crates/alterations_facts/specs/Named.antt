@@ -1,5 +1,5 @@
 -- Bits by their places: bit b of byte i.
-use Rattle.octets.specs.Words.{ℕ, ◌<◌, Bool, false, ◌||◌, ◌&&◌, List, [], ◌∷◌, eqb, get_or}
+use Rattle.std.specs.Prelude.{ℕ, ◌<◌, Bool, false, ◌||◌, ◌&&◌, List, [], ◌∷◌, eqb, get_or}
 use Rattle.octets.specs.Bits.{bit}
 
 -- it is set

@@ -1,6 +1,6 @@
 -- A beacon's content, document 01, "Beacon layout" (IEEE 802.15.4-2011, 5.2.2.1): superframe specification, GTS
 -- information and pending addresses, side by side.
-use Rattle.octets.specs.Words.{ℕ, ◌+◌, Bool, not, ◌||◌, List, [], ◌∷◌, ◌++◌, eqb}
+use Rattle.std.specs.Prelude.{ℕ, ◌+◌, Bool, not, ◌||◌, List, [], ◌∷◌, ◌++◌, eqb}
 use Rattle.octets.specs.declared.{Outcome.Outcome, ValueWritten.ValueWritten}
 use Rattle.octets.specs.{Order.first, Value.write_value}
 use Rattle.octets.specs.Outcome.{accepted, refused}

@@ -2,7 +2,7 @@
 // asks anything; writing measures before it calls those that do (`requires`).
 #![tactic(auto)]
 
-ghost use Rattle.octets.specs.Words.{◌+◌, ◌-◌, ◌≤◌, false, ◌≡◌, length};
+ghost use Rattle.std.specs.Prelude.{◌+◌, ◌-◌, ◌≤◌, false, ◌≡◌, length};
 ghost use Rattle.octets.specs.Buffer.{laid, after};
 ghost use Rattle.octets.specs.Value.{value_outcome};
 ghost use Rattle.beacon.specs.Beacon.{beacon_of, empty_beacon, beacon_refused, read_beacon, beacon_bytes, beacon_size};

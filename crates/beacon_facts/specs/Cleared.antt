@@ -1,6 +1,6 @@
 -- The bytes that were read, but for the bits that writing clears. Document 01, "Bits that writing clears": "byte 1 bit
 -- 5; GTS header bits 3-6; direction bits n to 7 where n > 0; pending header bits 3 and 7. No others".
-use Rattle.octets.specs.Words.{ℕ, zero, suc, ◌+◌, ◌-◌, List, take, drop}
+use Rattle.std.specs.Prelude.{ℕ, zero, suc, ◌+◌, ◌-◌, List, take, drop}
 use Rattle.octets.specs.Bits.{clear_at}
 use Rattle.time_slots.specs.TimeSlots.{slot_count_in, time_slots_length_in}
 use Rattle.pending.specs.Pending.{pending_length_in}

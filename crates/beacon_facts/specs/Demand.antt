@@ -1,7 +1,7 @@
 -- What is demanded behind a GTS header, and where it tells. Document 02, request 2: "For n > 0 let it demand 1+3n after its
 -- header .. Whole beacons answer as before; the departure from the crate is listed". The crate's demand, document 01's
 -- "2+3n", is stated here, to be held beside the reader's: no reader has it.
-use Rattle.octets.specs.Words.{ℕ, zero, suc, ◌+◌, ◌-◌, ◌*◌, Bool, ◌&&◌, List, [], ◌∷◌, length, ltb, eqb}
+use Rattle.std.specs.Prelude.{ℕ, zero, suc, ◌+◌, ◌-◌, ◌*◌, Bool, ◌&&◌, List, [], ◌∷◌, length, ltb, eqb}
 use Rattle.octets.specs.{Order.first, Outcome.accepted, Part.ends}
 use Rattle.superframe.specs.Superframe.{read_superframe}
 use Rattle.time_slots.specs.declared.{TimeSlotsRead.TimeSlotsRead}

@@ -1,6 +1,6 @@
 -- Demand 3 for any part that can be read and written: what is promised of a value that was read, and of a value that is
 -- written.
-use Rattle.octets.specs.Words.{ℕ, ◌+◌, ◌-◌, ◌≤◌, Bool, false, List, ◌++◌, ◌≡◌, length, take, drop}
+use Rattle.std.specs.Prelude.{ℕ, ◌+◌, ◌-◌, ◌≤◌, Bool, false, List, ◌++◌, ◌≡◌, length, take, drop}
 use Rattle.octets.specs.declared.{ValueWritten.ValueWritten}
 use Rattle.octets.specs.{Buffer.laid, Buffer.after, Little.Bytes, Value.value_outcome}
 use Rattle.octets.specs.declared.ValueWritten.TheVariants.{Written}

@@ -1,5 +1,5 @@
 -- The beacon and each of its parts as formats.
-use Rattle.octets.specs.Words.{ℕ, ◌^◌, ◌<◌, List, ◌≡◌, length, get_or}
+use Rattle.std.specs.Prelude.{ℕ, ◌^◌, ◌<◌, List, ◌≡◌, length, get_or}
 use Rattle.octets.specs.Outcome.{accepted}
 use Rattle.identifiers.specs.declared.{ShortAddress.ShortAddress, ExtendedAddress.ExtendedAddress}
 use Rattle.seven_places.specs.Seven.{emptied}

@@ -1,6 +1,6 @@
 -- Demand 3 for a whole beacon, in the definitions that the contracts of `Beacon::read` and `Beacon::write` cite: read,
 -- written again, read from there and written once more, with every byte of the buffer.
-use Rattle.octets.specs.Words.{ℕ, ◌+◌, ◌≤◌, List, ◌++◌, ◌≡◌, length, take, drop}
+use Rattle.std.specs.Prelude.{ℕ, ◌+◌, ◌≤◌, List, ◌++◌, ◌≡◌, length, take, drop}
 use Rattle.octets.specs.{Buffer.after, Value.value_outcome}
 use Rattle.octets.specs.declared.ValueWritten.TheVariants.{Written}
 use Rattle.beacon.specs.declared.{Beacon.Beacon}

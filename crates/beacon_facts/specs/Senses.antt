@@ -2,7 +2,8 @@
 -- unused places stay Receive .. Bytes written from a read beacon don't change; records .. do". The crate's sense,
 -- document 01's "set is Transmit, as in `beacon.rs`", is stated here, to be held beside `direction_bit`: no reader and
 -- no writer has it.
-use Rattle.octets.specs.Words.{ℕ, ◌+◌, ◌*◌, cond, List, [], ◌∷◌, ◌++◌, map, flat_map, eqb, take, drop}
+use Rattle.std.specs.Prelude.{ℕ, ◌+◌, ◌*◌, cond, List, [], ◌∷◌, ◌++◌, map, eqb, take, drop}
+use Rattle.octets.specs.Words.{flat_map}
 use Rattle.octets.specs.declared.{Outcome.Outcome, ValueWritten.ValueWritten}
 use Rattle.octets.specs.Bits.{bits, bit}
 use Rattle.octets.specs.Little.{number, split}

@@ -1,7 +1,7 @@
 // Number and length of the beacon at a place of a slice, told by the counts in its two headers. No record is made.
 #![tactic(auto)]
 
-ghost use Rattle.octets.specs.Words.{◌≤◌, ◌≡◌};
+ghost use Rattle.std.specs.Prelude.{◌≤◌, ◌≡◌};
 ghost use Rattle.time_slots.specs.TimeSlots.{time_slots_length_in};
 ghost use Rattle.pending.specs.Pending.{pending_length_in};
 ghost use Rattle.beacon.specs.Beacon.{read_beacon};

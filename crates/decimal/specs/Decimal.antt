@@ -1,6 +1,6 @@
 -- Numbers in decimal, as a text has them: document 02, request 3, "A decimal is one or more digits", "a decimal below
 -- 2^64". Zeros may lead.
-use Rattle.octets.specs.Words.{ℕ, ◌+◌, ◌-◌, ◌*◌, ◌^◌, Bool, true, cond, ◌&&◌, List, [], ◌∷◌, ltb, leb, length}
+use Rattle.std.specs.Prelude.{ℕ, ◌+◌, ◌-◌, ◌*◌, ◌^◌, Bool, true, cond, ◌&&◌, List, [], ◌∷◌, ltb, leb, length}
 use Rattle.decimal.specs.{declared.Decimal.Decimal}
 
 -- a digit, 0 to 9

@@ -1,7 +1,7 @@
 // Numbers in decimal, read from text: any number of digits, zeros may lead.
 #![tactic(auto)]
 
-ghost use Rattle.octets.specs.Words.{◌≡◌, drop};
+ghost use Rattle.std.specs.Prelude.{◌≡◌, drop};
 ghost use Rattle.decimal.specs.Decimal.{is_numeral, decimal_in};
 
 // What the digits from a place on are: whether they are a decimal, one or more digits that make a number below 2^64,

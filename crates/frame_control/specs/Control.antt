@@ -1,7 +1,7 @@
 -- The frame control field, document 01, "Header layout" (IEEE 802.15.4-2011, 5.2.1.1): type bits 0-2, security 3,
 -- pending 4, acknowledgement request 5, PAN compression 6, bit 7 not read, sequence suppression 8, elements present 9,
 -- destination mode 10-11, version 12-13, source mode 14-15.
-use Rattle.octets.specs.Words.{ℕ, ◌+◌, ◌*◌, ◌^◌, false, [], ◌∷◌, eqb}
+use Rattle.std.specs.Prelude.{ℕ, ◌+◌, ◌*◌, ◌^◌, false, [], ◌∷◌, eqb}
 use Rattle.octets.specs.{declared.Outcome.Outcome, Bits.bits, Bits.bit, Bits.bit_of}
 use Rattle.octets.specs.{Order.first, Outcome.accepted, Outcome.refused}
 use Rattle.frame_control.specs.declared.{FrameControl.FrameControl, FrameControlRefusal.FrameControlRefusal}

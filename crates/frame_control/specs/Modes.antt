@@ -1,6 +1,6 @@
 -- Address modes and their bits: document 01, "Modes are 0 none, 2 short, 3 extended" (IEEE 802.15.4-2011, 5.2.1.1.6 and
 -- 5.2.1.1.8).
-use Rattle.octets.specs.Words.{ℕ, List, [], ◌∷◌}
+use Rattle.std.specs.Prelude.{ℕ, List, [], ◌∷◌}
 use Rattle.octets.specs.{declared.Outcome.Outcome, Bits.find, Outcome.accepted, Outcome.refused}
 use Rattle.frame_control.specs.{declared.AddressMode.AddressMode, declared.AddressModeRead.AddressModeRead}
 use Rattle.frame_control.specs.declared.AddressMode.TheVariants.{None, Short, Extended}

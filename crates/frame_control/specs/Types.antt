@@ -1,6 +1,6 @@
 -- Frame types and their bits: document 01, "Types 0, 1, 2, 3, 5, 6, 7 are known" (IEEE 802.15.4-2011, 5.2.1.1.1, as
 -- document 01 widens it).
-use Rattle.octets.specs.Words.{ℕ, List, [], ◌∷◌}
+use Rattle.std.specs.Prelude.{ℕ, List, [], ◌∷◌}
 use Rattle.octets.specs.{declared.Outcome.Outcome, Bits.find, Outcome.accepted, Outcome.refused}
 use Rattle.frame_control.specs.{declared.FrameType.FrameType, declared.FrameTypeRead.FrameTypeRead}
 use Rattle.frame_control.specs.declared.FrameType.TheVariants.{Beacon, Data, Acknowledgement, MacCommand}

@@ -1,6 +1,6 @@
 -- Frame versions and their bits: document 01, "Versions 0, 1, 2 are known" (IEEE 802.15.4-2011, 5.2.1.1.7, as document
 -- 01 widens it).
-use Rattle.octets.specs.Words.{ℕ, List, [], ◌∷◌}
+use Rattle.std.specs.Prelude.{ℕ, List, [], ◌∷◌}
 use Rattle.octets.specs.{declared.Outcome.Outcome, Bits.find, Outcome.accepted, Outcome.refused}
 use Rattle.frame_control.specs.{declared.FrameVersion.FrameVersion, declared.FrameVersionRead.FrameVersionRead}
 use Rattle.frame_control.specs.declared.FrameVersion.TheVariants.{Ieee802154_2003, Ieee802154_2006, Ieee802154}

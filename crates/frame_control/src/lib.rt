@@ -2,7 +2,7 @@
 // together.
 #![tactic(auto)]
 
-ghost use Rattle.octets.specs.Words.{◌≤◌, ◌≡◌};
+ghost use Rattle.std.specs.Prelude.{◌≤◌, ◌≡◌};
 ghost use Rattle.frame_control.specs.Types.{type_of, type_bits, type_outcome, known_type};
 ghost use Rattle.frame_control.specs.Versions.{version_of, version_bits, version_outcome, known_version};
 ghost use Rattle.frame_control.specs.Modes.{mode_of, mode_bits, mode_outcome, known_mode};

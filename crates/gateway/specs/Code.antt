@@ -1,6 +1,6 @@
 -- The one number that a C entry returns, document 01, "Payload view and C entry points": "the length, or on refusal, in
 -- place of length 0, 1000 plus the refusal number".
-use Rattle.octets.specs.Words.{ℕ, ◌+◌, cond, eqb}
+use Rattle.std.specs.Prelude.{ℕ, ◌+◌, cond, eqb}
 use Rattle.octets.specs.declared.{Outcome.Outcome}
 
 abbrev pub code_of : Outcome → ℕ

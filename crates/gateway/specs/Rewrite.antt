@@ -1,6 +1,6 @@
 -- What rewriting a beacon answers, reading it and writing it again: reading's refusal, then 1 where its bytes have no
 -- room. Writing's other refusal, 8, cannot be: what was read fits its bits.
-use Rattle.octets.specs.Words.{ℕ, List, [], ◌∷◌, ltb}
+use Rattle.std.specs.Prelude.{ℕ, List, [], ◌∷◌, ltb}
 use Rattle.octets.specs.declared.{Outcome.Outcome}
 use Rattle.octets.specs.{Order.first, Outcome.accepted, Outcome.refused}
 use Rattle.beacon.specs.Beacon.{beacon_length_in, refuses, read_beacon}

@@ -1,6 +1,6 @@
 // The bits that writing clears, cleared where they stand. The functions ask for what they touch (`requires`): rewriting
 // measures first.
-ghost use Rattle.octets.specs.Words.{◌<◌, true, ◌≡◌, length};
+ghost use Rattle.std.specs.Prelude.{◌<◌, true, ◌≡◌, length};
 ghost use Rattle.octets.specs.Bits.{bit, clear, clear_at};
 ghost use Rattle.header_bytes.specs.{Layout.source_end, Cleared.cleared_by};
 ghost use Rattle.beacon_facts.specs.Cleared.{clear_directions};

@@ -2,7 +2,7 @@
 // and copy what is rewritten with the listed bits cleared; no record is made.
 #![tactic(auto)]
 
-ghost use Rattle.octets.specs.Words.{◌≤◌, ◌≡◌, length};
+ghost use Rattle.std.specs.Prelude.{◌≤◌, ◌≡◌, length};
 ghost use Rattle.octets.specs.{Buffer.laid, Buffer.after, Little.number, Outcome.accepted};
 ghost use Rattle.header_bytes.specs.{Reading.measured, Rewriting.rewrite_header, Cleared.header_cleared};
 ghost use Rattle.beacon.specs.Beacon.{read_beacon};

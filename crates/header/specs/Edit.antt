@@ -1,6 +1,6 @@
 -- The bridge's edits (document 02, request 4). Replacing or removing an address switches compression off, and replacing
 -- a missing one adds it; the kept length is that of the parts as they would then lie in the frame.
-use Rattle.octets.specs.Words.{ℕ, true, false, cond}
+use Rattle.std.specs.Prelude.{ℕ, true, false, cond}
 use Rattle.address.specs.declared.{Address.Address}
 use Rattle.address.specs.declared.OptionalAddress.TheVariants.{Absent, Present}
 use Rattle.address_pair.specs.Pair.{pair_shares}

@@ -1,7 +1,7 @@
 -- Reading a header: the first of document 01's refusals that holds (header_bytes/specs/Reading has the list, test by
 -- test), or the record of its fields. Behind the frame control come the sequence byte, always, the addresses, and the
 -- security header where the security bit announces one.
-use Rattle.octets.specs.Words.{ℕ, Bool, [], ◌∷◌, map, List}
+use Rattle.std.specs.Prelude.{ℕ, Bool, [], ◌∷◌, map, List}
 use Rattle.octets.specs.{declared.Outcome.Outcome, Outcome.accepted, Outcome.refused, Order.first}
 use Rattle.octets.specs.{Bits.bits, Bits.bit, Bits.find, Little.number}
 use Rattle.header_bytes.specs.{Layout.start, Layout.own_destination, Layout.own_source}

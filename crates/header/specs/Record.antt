@@ -1,6 +1,6 @@
 -- The header record: how it is made, with the length that it keeps; whether it is secured, which PAN ids it has in a
 -- frame, and its two lengths (document 01, "Header layout"; document 02, request 4).
-use Rattle.octets.specs.Words.{ℕ, ◌+◌, Bool, true}
+use Rattle.std.specs.Prelude.{ℕ, ◌+◌, Bool, true}
 use Rattle.frame_control.specs.declared.{FrameControl.FrameControl}
 use Rattle.address.specs.{declared.OptionalAddress.OptionalAddress, Address.mode_of, Layout.address_length}
 use Rattle.address_pair.specs.Pair.{owns_to, owns_from, pair_end}

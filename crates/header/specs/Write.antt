@@ -1,7 +1,7 @@
 -- Writing a header: the first refusal that holds (header_parts/specs/Parts has them in document 01's order, test by
 -- test), or its bytes. The writer clears frame-control bits 7, 8 and 9, takes the key mode from the key identifier and
 -- the counter from the caller.
-use Rattle.octets.specs.Words.{ℕ, Bool, List, ◌++◌}
+use Rattle.std.specs.Prelude.{ℕ, Bool, List, ◌++◌}
 use Rattle.octets.specs.Little.{split}
 use Rattle.frame_control.specs.{declared.FrameControl.FrameControl, Control.control_bits, Control.quiet_control}
 use Rattle.address_pair.specs.Pair.{pair_bytes, pair_lacks}

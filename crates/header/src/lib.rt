@@ -1,7 +1,7 @@
 // The header of a frame: read from any slice, written into any slice, its lengths, and the edits that a bridge makes.
 #![tactic(auto)]
 
-ghost use Rattle.octets.specs.Words.{◌+◌, ◌-◌, min, ◌≡◌, length, drop};
+ghost use Rattle.std.specs.Prelude.{◌+◌, ◌-◌, min, ◌≡◌, length, drop};
 ghost use Rattle.octets.specs.Buffer.{laid, after};
 ghost use Rattle.security.specs.Optional.{counter_of};
 ghost use Rattle.header.specs.Record.{header_of, with_length, secured, octet_size};

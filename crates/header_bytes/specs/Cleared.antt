@@ -1,6 +1,6 @@
 -- The bits that writing a header clears (document 01, "Bits that writing clears"): frame-control bits 7, 8 and 9, which
 -- are bit 7 of byte 0 and bits 0 and 1 of byte 1, and security control bits 5, 6 and 7. No others.
-use Rattle.octets.specs.Words.{ℕ, cond, List, take}
+use Rattle.std.specs.Prelude.{ℕ, cond, List, take}
 use Rattle.octets.specs.{Bits.bit, Bits.clear_at, Little.number}
 use Rattle.header_bytes.specs.Layout.{source_end, header_end}
 

@@ -1,7 +1,7 @@
 -- Where the parts of a header lie, by its frame control w, the number in bytes 0 and 1 (document 01, "Header layout";
 -- IEEE 802.15.4-2011, 5.2.1): security bit 3, compression 6, sequence suppression 8, destination mode bits 10-11,
 -- source mode 14-15. Modes are numbers, 2 short and 3 extended.
-use Rattle.octets.specs.Words.{ℕ, ◌+◌, Bool, cond, not, ◌&&◌, List, [], ◌∷◌, ltb}
+use Rattle.std.specs.Prelude.{ℕ, ◌+◌, Bool, cond, not, ◌&&◌, List, [], ◌∷◌, ltb}
 use Rattle.octets.specs.{Bits.bits, Bits.bit, Bits.find, Little.number}
 
 -- where the addresses begin, by sequence suppression, bit 8, which alters nothing: the sequence byte is always there

@@ -1,6 +1,6 @@
 -- What reading a header answers, by its bytes alone, document 01: 1 below three bytes; 2; 3; 4 destination; 4 source; 1
 -- destination; 5; 1 source; 1 security part. Each is given exactly when it is the first in its order.
-use Rattle.octets.specs.Words.{ℕ, Bool, ◌&&◌, List, [], ◌∷◌, map, ltb, eqb, length}
+use Rattle.std.specs.Prelude.{ℕ, Bool, ◌&&◌, List, [], ◌∷◌, map, ltb, eqb, length}
 use Rattle.octets.specs.declared.{Outcome.Outcome}
 use Rattle.octets.specs.{Order.first, Outcome.accepted, Outcome.refused, Bits.bits, Bits.bit, Little.number}
 use Rattle.header_bytes.specs.Layout.{destination_end, source_end, header_end}

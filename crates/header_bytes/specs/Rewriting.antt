@@ -1,7 +1,7 @@
 -- What rewriting a header answers, reading it and writing it again with the counter that was read, by its bytes alone.
 -- Reading's refusals come before writing's, and of those, document 01's "8; 1 below three bytes of room; 6; 1
 -- addresses; 7; 1 security part", 8 and 7 cannot be: three bits hold no level above 7, and the counter is there.
-use Rattle.octets.specs.Words.{ℕ, Bool, ◌&&◌, List, [], ◌∷◌, ◌++◌, ltb, eqb}
+use Rattle.std.specs.Prelude.{ℕ, Bool, ◌&&◌, List, [], ◌∷◌, ◌++◌, ltb, eqb}
 use Rattle.octets.specs.declared.{Outcome.Outcome}
 use Rattle.octets.specs.{Bits.bits, Bits.bit, Little.number}
 use Rattle.header_bytes.specs.Layout.{source_end, header_end}

@@ -2,7 +2,7 @@
 // control. No record is made. What stands in specs/ is what records, measuring and the C entries share.
 #![tactic(auto)]
 
-ghost use Rattle.octets.specs.Words.{◌+◌, ◌≤◌, ◌<◌, not, ◌&&◌, ◌≡◌, ltb, eqb};
+ghost use Rattle.std.specs.Prelude.{◌+◌, ◌≤◌, ◌<◌, not, ◌&&◌, ◌≡◌, ltb, eqb};
 ghost use Rattle.octets.specs.Bits.{bits, bit};
 ghost use Rattle.header_bytes.specs.Layout.{own_destination, own_source, pan_size, address_size, security_size};
 ghost use Rattle.header_bytes.specs.Layout.{destination_end, source_end, header_end};

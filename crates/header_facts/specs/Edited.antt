@@ -1,6 +1,6 @@
 -- The bridge's edits (document 02, request 4): what each leaves of a record, field by field, when 12 is given, and what
 -- is read of an edited record that was written.
-use Rattle.octets.specs.Words.{ℕ, ◌+◌, ◌^◌, ◌≤◌, ◌<◌, Bool, true, false, List, [], ◌∷◌, ◌++◌, ◌≡◌, length}
+use Rattle.std.specs.Prelude.{ℕ, ◌+◌, ◌^◌, ◌≤◌, ◌<◌, Bool, true, false, List, [], ◌∷◌, ◌++◌, ◌≡◌, length}
 use Rattle.address.specs.declared.{Address.Address, OptionalAddress.OptionalAddress}
 use Rattle.address.specs.{Address.pan_of, Layout.SmallAddress}
 use Rattle.address.specs.declared.OptionalAddress.TheVariants.{Absent, Present}

@@ -1,5 +1,5 @@
 -- Demand 3 for a header, point by point: read, written again with the counter that was read, and read once more.
-use Rattle.octets.specs.Words.{ℕ, ◌+◌, ◌≤◌, false, List, ◌++◌, ◌≡◌, length, take, drop}
+use Rattle.std.specs.Prelude.{ℕ, ◌+◌, ◌≤◌, false, List, ◌++◌, ◌≡◌, length, take, drop}
 use Rattle.octets.specs.{declared.Outcome.Outcome, Outcome.refused, Buffer.laid, Little.number}
 use Rattle.header_bytes.specs.{Cleared.header_cleared, Rewriting.sourceless}
 use Rattle.address.specs.declared.{OptionalAddress.OptionalAddress}

@@ -1,7 +1,7 @@
 -- Demand 3 for a header, in the definitions that the contracts of `Header::read_at` and `Header::write_at` cite: read,
 -- written again with the counter that was read, read from there and written once more, with every byte of the buffer. The
 -- same, but for the bytes that were read, of a record that a bridge has edited (document 02, request 4).
-use Rattle.octets.specs.Words.{ℕ, ◌+◌, ◌-◌, ◌≤◌, List, ◌++◌, ◌≡◌, length, take, drop}
+use Rattle.std.specs.Prelude.{ℕ, ◌+◌, ◌-◌, ◌≤◌, List, ◌++◌, ◌≡◌, length, take, drop}
 use Rattle.octets.specs.Buffer.{after}
 use Rattle.header_bytes.specs.Cleared.{header_cleared}
 use Rattle.header_parts.specs.Parts.{written_outcome}

@@ -1,5 +1,5 @@
 -- From a record's side: what is read of a record that was written with a counter, and which records a program can hold.
-use Rattle.octets.specs.Words.{ℕ, ◌^◌, ◌<◌}
+use Rattle.std.specs.Prelude.{ℕ, ◌^◌, ◌<◌}
 use Rattle.key_identifier.specs.Key.{SmallKey}
 use Rattle.address.specs.{Address.shared_pan, Layout.sharing, Layout.SmallAddress}
 use Rattle.security.specs.declared.{OptionalSecurityHeader.OptionalSecurityHeader}

@@ -1,6 +1,6 @@
 -- The length of a header's parts, and writing a header by its parts, document 01: 8; 1 below three bytes of room; 6; 1
 -- addresses; 7; 1 security part. 8 is also given for a wrong kept length (document 02, request 4).
-use Rattle.octets.specs.Words.{ℕ, ◌+◌, Bool, not, List, [], ◌∷◌, ltb, eqb}
+use Rattle.std.specs.Prelude.{ℕ, ◌+◌, Bool, not, List, [], ◌∷◌, ltb, eqb}
 use Rattle.octets.specs.{declared.Outcome.Outcome, Outcome.accepted, Outcome.refused, Order.first}
 use Rattle.address.specs.declared.{OptionalAddress.OptionalAddress}
 use Rattle.address_pair.specs.Pair.{pair_end, pair_lacks}

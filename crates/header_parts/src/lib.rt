@@ -2,7 +2,7 @@
 // in a frame, and what writing a header of such parts answers.
 #![tactic(auto)]
 
-ghost use Rattle.octets.specs.Words.{◌≤◌, ◌≡◌};
+ghost use Rattle.std.specs.Prelude.{◌≤◌, ◌≡◌};
 ghost use Rattle.header_parts.specs.Parts.{parts_length, write_parts, written_outcome};
 
 use address::OptionalAddress;

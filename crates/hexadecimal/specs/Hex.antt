@@ -1,6 +1,6 @@
 -- Bytes in hex: document 01, "Line program", "bytes in hex (either case, possibly none)" and "an odd or foreign digit".
-use Rattle.octets.specs.Words.{ℕ, zero, suc, ◌+◌, ◌-◌, ◌*◌, ◌%◌, Bool, true, false, cond, ◌&&◌, List, [], ◌∷◌, ◌++◌}
-use Rattle.octets.specs.Words.{ltb, leb, eqb, length, get_or, take, drop}
+use Rattle.std.specs.Prelude.{ℕ, zero, suc, ◌+◌, ◌-◌, ◌*◌, ◌%◌, Bool, true, false, cond, ◌&&◌, List, [], ◌∷◌, ◌++◌}
+use Rattle.std.specs.Prelude.{ltb, leb, eqb, length, get_or, take, drop}
 use Rattle.octets.specs.{Order.first}
 
 -- b is one of the count bytes from low on

@@ -1,7 +1,7 @@
 // Bytes in hex, two digits of either case to a byte. The table of values is made once for many lines and lent.
 #![tactic(auto)]
 
-ghost use Rattle.octets.specs.Words.{◌+◌, ◌-◌, ◌*◌, ◌/◌, min, ◌≡◌, length};
+ghost use Rattle.std.specs.Prelude.{◌+◌, ◌-◌, ◌*◌, ◌/◌, min, ◌≡◌, length};
 ghost use Rattle.octets.specs.Buffer.{laid};
 ghost use Rattle.hexadecimal.specs.Hex.{worth, worths, decoded, decoded_by};
 

@@ -2,7 +2,7 @@
 // form, read and written as a part of a slice at a place.
 #![tactic(auto)]
 
-ghost use Rattle.octets.specs.Words.{◌≡◌};
+ghost use Rattle.std.specs.Prelude.{◌≡◌};
 ghost use Rattle.octets.specs.Buffer.{after};
 ghost use Rattle.octets.specs.Little.{split};
 ghost use Rattle.octets.specs.Part.{write_part, part_outcome};

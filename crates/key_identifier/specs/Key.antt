@@ -1,6 +1,6 @@
 -- The key identifier, document 01, "Header layout" (IEEE 802.15.4-2011, 7.4.3): by key mode 0 nothing, 1 index (1), 2
 -- source (4) and index (1), 3 source (8) and index (1).
-use Rattle.octets.specs.Words.{ℕ, ◌+◌, ◌^◌, ◌<◌, List, [], ◌++◌}
+use Rattle.std.specs.Prelude.{ℕ, ◌+◌, ◌^◌, ◌<◌, List, [], ◌++◌}
 use Rattle.octets.specs.Little.{number, split}
 use Rattle.security_control.specs.declared.{KeyIdentifierMode.KeyIdentifierMode}
 use Rattle.key_identifier.specs.declared.{OptionalKeySource.OptionalKeySource}

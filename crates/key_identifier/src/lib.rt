@@ -2,7 +2,7 @@
 // Bytes past the end of a slice count as 0 in `key_at` and are dropped by `put_key`: readers and writers measure first.
 #![tactic(auto)]
 
-ghost use Rattle.octets.specs.Words.{◌+◌, ◌-◌, ◌≤◌, min, ◌≡◌, length};
+ghost use Rattle.std.specs.Prelude.{◌+◌, ◌-◌, ◌≤◌, min, ◌≡◌, length};
 ghost use Rattle.octets.specs.Buffer.{laid, after};
 ghost use Rattle.octets.specs.Part.{write_part, part_outcome};
 ghost use Rattle.key_identifier.specs.declared.OptionalKeyIdentifier.TheVariants.{Present};

@@ -1,6 +1,6 @@
 -- A line that is a label, a tab and a frame in hex, given without its line feed, and the answer of a program that says
 -- something of the frame: document 01, "Line program".
-use Rattle.octets.specs.Words.{ℕ, suc, ◌+◌, cond, not, List, [], ◌∷◌, ◌++◌, ltb, eqb, length, drop}
+use Rattle.std.specs.Prelude.{ℕ, suc, ◌+◌, cond, not, List, [], ◌∷◌, ◌++◌, ltb, eqb, length, drop}
 use Rattle.octets.specs.{Order.first}
 use Rattle.line_cutter.specs.{Line.tab_byte, Line.line_feed, Line.line_most, Line.before}
 use Rattle.hexadecimal.specs.{Hex.odd, Hex.foreign, Hex.unhex}

@@ -1,5 +1,5 @@
 -- Numbers in decimal.
-use Rattle.octets.specs.Words.{ℕ, zero, suc, ◌+◌, ◌/◌, ◌%◌, cond, List, [], ◌∷◌, ◌++◌, ltb}
+use Rattle.std.specs.Prelude.{ℕ, zero, suc, ◌+◌, ◌/◌, ◌%◌, cond, List, [], ◌∷◌, ◌++◌, ltb}
 use Rattle.line_cutter.specs.{Line.tab_byte}
 
 -- the digit of a number below 10

@@ -1,5 +1,6 @@
 -- Numbers and bytes in hex, as a program tells them, in lower case.
-use Rattle.octets.specs.Words.{ℕ, zero, suc, ◌+◌, ◌/◌, ◌%◌, cond, List, [], ◌∷◌, ◌++◌, flat_map, ltb}
+use Rattle.std.specs.Prelude.{ℕ, zero, suc, ◌+◌, ◌/◌, ◌%◌, cond, List, [], ◌∷◌, ◌++◌, ltb}
+use Rattle.octets.specs.Words.{flat_map}
 
 -- the digit of a number below 16
 abbrev pub hex_digit : ℕ → ℕ

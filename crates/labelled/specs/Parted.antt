@@ -1,6 +1,6 @@
 -- A line taken apart by a table of what bytes count for in a pair of digits, whatever the table has. Of a line that is
 -- too long nothing is looked at.
-use Rattle.octets.specs.Words.{ℕ, ◌+◌, ◌*◌, false, cond, List, [], ltb, eqb, length}
+use Rattle.std.specs.Prelude.{ℕ, ◌+◌, ◌*◌, false, cond, List, [], ltb, eqb, length}
 use Rattle.line_cutter.specs.{Line.line_most}
 use Rattle.hexadecimal.specs.{Hex.decoded_by}
 use Rattle.labelled.specs.{declared.Parted.Parted, Answer.label}

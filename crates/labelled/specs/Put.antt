@@ -1,5 +1,5 @@
 -- A store that takes as much as has room.
-use Rattle.octets.specs.Words.{ℕ, ◌+◌, ◌-◌, min, List, ◌≡◌, length}
+use Rattle.std.specs.Prelude.{ℕ, ◌+◌, ◌-◌, min, List, ◌≡◌, length}
 use Rattle.octets.specs.{Buffer.laid}
 
 -- o is the buffer l with b stored from a place on, as much of it as has room, and r is the place behind that

@@ -2,7 +2,7 @@
 // as has room and returns the place behind it, so that nothing is asked of a caller.
 #![tactic(auto)]
 
-ghost use Rattle.octets.specs.Words.{◌%◌, [], ◌∷◌, ◌≡◌, length};
+ghost use Rattle.std.specs.Prelude.{◌%◌, [], ◌∷◌, ◌≡◌, length};
 ghost use Rattle.octets.specs.Buffer.{laid};
 ghost use Rattle.labelled.specs.Answer.{bad};
 ghost use Rattle.labelled.specs.Decimal.{decimal, column};

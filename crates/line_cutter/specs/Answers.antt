@@ -1,6 +1,6 @@
 -- What a program writes that answers each line by itself, and what one chunk of its input adds to that. An answer is a
 -- function from a line, given without its line feed, to the bytes that are written for it.
-use Rattle.octets.specs.Words.{ℕ, ◌+◌, ◌≤◌, ◌<◌, List, [], ◌∷◌, ◌++◌, length, take}
+use Rattle.std.specs.Prelude.{ℕ, ◌+◌, ◌≤◌, ◌<◌, List, [], ◌∷◌, ◌++◌, length, take}
 use Rattle.octets.specs.{Buffer.laid}
 use Rattle.line_cutter.specs.{Line.kept_most, Lines.ended, Lines.begun, Lines.last, Lines.lines}
 

@@ -1,5 +1,5 @@
 -- One line of an input at a time (document 01, "Line program"): a line feed ends a line and is no part of it.
-use Rattle.octets.specs.Words.{ℕ, ◌+◌, Bool, cond, ◌||◌, ◌&&◌, List, [], ◌∷◌, ltb, eqb, length, get_or, drop}
+use Rattle.std.specs.Prelude.{ℕ, ◌+◌, Bool, cond, ◌||◌, ◌&&◌, List, [], ◌∷◌, ltb, eqb, length, get_or, drop}
 use Rattle.octets.specs.{Buffer.fitting}
 use Rattle.line_cutter.specs.{declared.Taken.Taken}
 

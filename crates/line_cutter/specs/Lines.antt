@@ -1,6 +1,6 @@
 -- All lines of an input: each that a line feed ends, and a last one that need not be ended. An input that ends in a
 -- line feed has no further line (document 01, "Line program": "A last line need not be ended").
-use Rattle.octets.specs.Words.{ℕ, cond, List, [], ◌∷◌, ◌++◌, eqb, take}
+use Rattle.std.specs.Prelude.{ℕ, cond, List, [], ◌∷◌, ◌++◌, eqb, take}
 use Rattle.line_cutter.specs.{Line.line_feed}
 
 -- the lines that end in s, where l is what came of the first one before s

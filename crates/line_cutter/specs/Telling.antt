@@ -1,6 +1,6 @@
 -- What a program writes that goes from line to line with a state: each line is a step to the next state, and something
 -- is written for it. What one chunk of its input leads to, and all chunks.
-use Rattle.octets.specs.Words.{ℕ, ◌+◌, List, [], ◌∷◌, ◌++◌, length, take}
+use Rattle.std.specs.Prelude.{ℕ, ◌+◌, List, [], ◌∷◌, ◌++◌, length, take}
 use Rattle.octets.specs.{Buffer.laid}
 use Rattle.line_cutter.specs.{Line.kept_most, Lines.ended, Lines.begun, Lines.last, Lines.run}
 

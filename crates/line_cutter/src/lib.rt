@@ -3,7 +3,7 @@
 // one.
 #![tactic(auto)]
 
-ghost use Rattle.octets.specs.Words.{◌+◌, ◌≡◌, length, drop};
+ghost use Rattle.std.specs.Prelude.{◌+◌, ◌≡◌, length, drop};
 ghost use Rattle.octets.specs.Buffer.{laid, fitting};
 ghost use Rattle.line_cutter.specs.Line.{before, is_at, line_of, taken};
 

@@ -1,5 +1,5 @@
 -- The answer to one line, given without its line feed: document 01, "Line program".
-use Rattle.octets.specs.Words.{ℕ, List, [], ◌∷◌, ◌++◌}
+use Rattle.std.specs.Prelude.{ℕ, List, [], ◌∷◌, ◌++◌}
 use Rattle.octets.specs.{declared.Outcome.Outcome}
 use Rattle.line_cutter.specs.{Line.tab_byte, Line.line_feed}
 use Rattle.labelled.specs.{Answer.labelled, Decimal.digit_of, Decimal.decimal}

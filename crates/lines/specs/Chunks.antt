@@ -1,7 +1,7 @@
 -- What the line program does with a chunk of its input, and with the input's end, whatever buffers it is lent. The line
 -- at hand is the first n bytes of a line buffer.
-use Rattle.octets.specs.Words.{ℕ, ◌+◌, ◌-◌, ◌*◌, Bool, true, false, cond, ◌&&◌, List, [], ◌++◌, leb, eqb, length, take}
-use Rattle.octets.specs.Words.{replicate}
+use Rattle.std.specs.Prelude.{ℕ, ◌+◌, ◌-◌, ◌*◌, Bool, true, false, cond, ◌&&◌, List, [], ◌++◌, leb, eqb, length, take}
+use Rattle.std.specs.Prelude.{replicate}
 use Rattle.line_cutter.specs.{Answers.answers, Answers.fed_to, Line.kept_most, Lines.last}
 use Rattle.lines.specs.{declared.Fed.Fed, Answer.answer}
 

@@ -1,5 +1,5 @@
 // The answer to one line, stored into a buffer: building blocks of this crate, which ask for room (`requires`).
-ghost use Rattle.octets.specs.Words.{◌+◌, ◌≤◌, ◌<◌, [], ◌∷◌, ◌++◌, ◌≡◌, length};
+ghost use Rattle.std.specs.Prelude.{◌+◌, ◌≤◌, ◌<◌, [], ◌∷◌, ◌++◌, ◌≡◌, length};
 ghost use Rattle.hexadecimal.specs.Hex.{worths};
 ghost use Rattle.line_cutter.specs.Line.{line_feed};
 ghost use Rattle.labelled.specs.Decimal.{decimal};

@@ -1,5 +1,5 @@
 -- The bits of a number, counted from 0 at the low end, and values listed by number.
-use Rattle.octets.specs.Words.{ℕ, ◌-◌, ◌*◌, ◌/◌, ◌%◌, ◌^◌, Bool, true, false, cond, List, [], ◌∷◌, eqb, get_or, set}
+use Rattle.std.specs.Prelude.{ℕ, ◌-◌, ◌*◌, ◌/◌, ◌%◌, ◌^◌, Bool, true, false, cond, List, [], ◌∷◌, eqb, get_or, set}
 
 -- the count bits of w from bit at on, as a number
 abbrev pub bits : ℕ → ℕ → ℕ → ℕ

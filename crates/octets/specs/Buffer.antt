@@ -1,5 +1,6 @@
 -- A buffer after stores, and after an answer: document 01, "A refused write returns 0 and the buffer keeps every byte".
-use Rattle.octets.specs.Words.{ℕ, ◌-◌, cond, List, eqb, length, take, sets}
+use Rattle.std.specs.Prelude.{ℕ, ◌-◌, cond, List, eqb, length, take}
+use Rattle.octets.specs.Words.{sets}
 use Rattle.octets.specs.declared.{Outcome.Outcome}
 
 -- the buffer l with the bytes b stored from the place at on

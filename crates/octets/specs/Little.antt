@@ -1,5 +1,5 @@
 -- Numbers as bytes, the lowest first: document 01, "All numbers are little-endian".
-use Rattle.octets.specs.Words.{ℕ, zero, suc, ◌+◌, ◌*◌, ◌/◌, ◌%◌, ◌<◌, List, [], ◌∷◌, take, drop}
+use Rattle.std.specs.Prelude.{ℕ, zero, suc, ◌+◌, ◌*◌, ◌/◌, ◌%◌, ◌<◌, List, [], ◌∷◌, take, drop}
 
 -- the number that bytes stand for
 unfoldable pub join : List ℕ → ℕ

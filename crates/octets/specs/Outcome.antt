@@ -1,6 +1,6 @@
 -- What an answer says in document 01's numbers: 0 and the length where it accepts, the refusal's number and length 0
 -- where it refuses.
-use Rattle.octets.specs.Words.{ℕ}
+use Rattle.std.specs.Prelude.{ℕ}
 use Rattle.octets.specs.declared.{Outcome.Outcome}
 
 abbrev pub accepted : ℕ → Outcome

@@ -1,6 +1,6 @@
 -- Parts that can only be refused with 1, "input ends, or room ends, before the part at hand is complete" (document 01,
 -- "Refusal numbers").
-use Rattle.octets.specs.Words.{ℕ, ◌-◌, Bool, List, [], ◌∷◌, ltb, length}
+use Rattle.std.specs.Prelude.{ℕ, ◌-◌, Bool, List, [], ◌∷◌, ltb, length}
 use Rattle.octets.specs.declared.{Outcome.Outcome, PartWritten.PartWritten, PartWritten.TheVariants.Written}
 use Rattle.octets.specs.declared.{PartWritten.TheVariants.Full}
 use Rattle.octets.specs.{Order.first, Outcome.accepted, Outcome.refused}

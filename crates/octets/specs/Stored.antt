@@ -1,5 +1,5 @@
 -- A store into a buffer, and the place behind it.
-use Rattle.octets.specs.Words.{ℕ, ◌+◌, List, ◌≡◌, length}
+use Rattle.std.specs.Prelude.{ℕ, ◌+◌, List, ◌≡◌, length}
 use Rattle.octets.specs.{Buffer.laid}
 
 -- o is the buffer l with b stored from a place on, and r is the place behind it

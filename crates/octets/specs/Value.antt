@@ -1,5 +1,5 @@
 -- Writing a part that can hold a value too large for its bits: 8, then 1 (document 01, "Refusal numbers").
-use Rattle.octets.specs.Words.{ℕ, Bool, List, [], ◌∷◌}
+use Rattle.std.specs.Prelude.{ℕ, Bool, List, [], ◌∷◌}
 use Rattle.octets.specs.declared.{Outcome.Outcome, ValueWritten.ValueWritten, ValueWritten.TheVariants.Written}
 use Rattle.octets.specs.declared.{ValueWritten.TheVariants.TooLarge, ValueWritten.TheVariants.Full}
 use Rattle.octets.specs.{Order.first, Outcome.accepted, Outcome.refused, Part.ends}

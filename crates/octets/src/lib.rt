@@ -3,7 +3,7 @@
 // they are stored. Readers and writers measure first.
 #![tactic(auto)]
 
-ghost use Rattle.octets.specs.Words.{◌+◌, ◌-◌, ◌^◌, ◌≤◌, ◌<◌, min, cond, ◌≡◌, ltb, length};
+ghost use Rattle.std.specs.Prelude.{◌+◌, ◌-◌, ◌^◌, ◌≤◌, ◌<◌, min, cond, ◌≡◌, ltb, length};
 ghost use Rattle.octets.specs.Bits.{bit_of};
 ghost use Rattle.octets.specs.Buffer.{laid, after, fitting};
 ghost use Rattle.octets.specs.Little.{split, number};

@@ -2,7 +2,7 @@
 -- unsecured Beacon, the beacon, then hands back the rest of the caller's slice, possibly empty, with no byte copied. On
 -- refusal, of header or beacon, it returns that number and the slice's empty beginning. A secured beacon's content is
 -- not read."
-use Rattle.octets.specs.Words.{ℕ, ◌+◌, Bool, false, cond, List, [], eqb, drop}
+use Rattle.std.specs.Prelude.{ℕ, ◌+◌, Bool, false, cond, List, [], eqb, drop}
 use Rattle.octets.specs.declared.{Outcome.Outcome}
 use Rattle.octets.specs.Outcome.{accepted, refused}
 use Rattle.frame_control.specs.Types.{type_bits}

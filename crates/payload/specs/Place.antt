@@ -1,7 +1,7 @@
 -- Where in memory a part of a slice begins. A reference points (`ptr`) at a block of memory and an offset in it; the
 -- bytes alone (`now`) do not tell of two stretches with the same bytes which one is meant, nor of two empty ones.
 use Rattle.std.specs.Borrow.{Bor}
-use Rattle.octets.specs.Words.{ℕ, ◌+◌, List, ◌≡◌}
+use Rattle.std.specs.Prelude.{ℕ, ◌+◌, List, ◌≡◌}
 
 -- part begins n bytes behind the beginning of s, in the same block
 abbrev pub begins : (part s : Bor (List ℕ)) → ℕ → Type 0

@@ -2,7 +2,7 @@
 // own slice.
 #![tactic(auto)]
 
-ghost use Rattle.octets.specs.Words.{◌≤◌, ◌≡◌, length};
+ghost use Rattle.std.specs.Prelude.{◌≤◌, ◌≡◌, length};
 ghost use Rattle.beacon.specs.Beacon.{read_beacon};
 ghost use Rattle.payload.specs.Frame.{unsecured_beacon, without_beacon, with_beacon, read_frame, payload_of};
 ghost use Rattle.payload.specs.Place.{begins};

@@ -1,5 +1,5 @@
 -- Lists of short and of extended addresses side by side (IEEE 802.15.4-2011, 5.2.2.1.7), two and eight bytes each.
-use Rattle.octets.specs.Words.{ℕ, ◌+◌, ◌*◌, List}
+use Rattle.std.specs.Prelude.{ℕ, ◌+◌, ◌*◌, List}
 use Rattle.octets.specs.Little.{number, split}
 use Rattle.identifiers.specs.declared.{ShortAddress.ShortAddress, ExtendedAddress.ExtendedAddress}
 use Rattle.identifiers.specs.{ShortAddress.short, ExtendedAddress.extended}

@@ -1,6 +1,7 @@
 -- Pending addresses, document 01, "Beacon layout" (IEEE 802.15.4-2011, 5.2.2.1.6 and 5.2.2.1.7). Header: short count
 -- bits 0-2, extended count 4-6; short addresses first.
-use Rattle.octets.specs.Words.{ℕ, ◌+◌, ◌*◌, ◌^◌, Bool, ◌||◌, List, [], ◌∷◌, ◌++◌, flat_map, ltb, take, replicate}
+use Rattle.std.specs.Prelude.{ℕ, ◌+◌, ◌*◌, ◌^◌, Bool, ◌||◌, List, [], ◌∷◌, ◌++◌, ltb, take, replicate}
+use Rattle.octets.specs.Words.{flat_map}
 use Rattle.octets.specs.declared.{ValueWritten.ValueWritten}
 use Rattle.octets.specs.{Bits.bits, Order.first, Part.ends, Value.write_value}
 use Rattle.octets.specs.Little.{number, split}

@@ -3,7 +3,8 @@
 // before they call those that do (`requires`).
 #![tactic(auto)]
 
-ghost use Rattle.octets.specs.Words.{◌+◌, ◌-◌, ◌*◌, ◌≤◌, false, cond, ◌++◌, flat_map, ◌≡◌, length, take};
+ghost use Rattle.std.specs.Prelude.{◌+◌, ◌-◌, ◌*◌, ◌≤◌, false, cond, ◌++◌, ◌≡◌, length, take};
+ghost use Rattle.octets.specs.Words.{flat_map};
 ghost use Rattle.octets.specs.Buffer.{laid, after};
 ghost use Rattle.octets.specs.Value.{value_outcome};
 ghost use Rattle.pending.specs.Addresses.{shorts_in, extendeds_in, short_bytes, extended_bytes};

@@ -1,7 +1,7 @@
 -- How many bytes of a frame the reader of its header needs to see, by the bytes s that it has seen (document 02,
 -- request 1). Three to begin with, which are enough where reading refuses with 2 to 5. Then up to the security control,
 -- where there is one, since it tells how long its part is, and then the whole header.
-use Rattle.octets.specs.Words.{ℕ, ◌+◌, Bool, ◌&&◌, List, [], ◌∷◌, ltb, leb, length}
+use Rattle.std.specs.Prelude.{ℕ, ◌+◌, Bool, ◌&&◌, List, [], ◌∷◌, ltb, leb, length}
 use Rattle.octets.specs.{Order.first, Bits.bit, Little.number}
 use Rattle.header_bytes.specs.{Layout.source_end, Layout.header_end, Reading.measured}
 

@@ -1,7 +1,7 @@
 -- The reader that takes a header in pieces (document 02, request 1): what it hands back to a piece and to the end, by
 -- the bytes that it has seen and those of the piece joined to them.
 use Rattle.std.specs.Prelude.{max}
-use Rattle.octets.specs.Words.{ℕ, ◌-◌, min, Bool, cond, ◌&&◌, List, ◌++◌, ltb, leb, length, take, replicate}
+use Rattle.std.specs.Prelude.{ℕ, ◌-◌, min, Bool, cond, ◌&&◌, List, ◌++◌, ltb, leb, length, take, replicate}
 use Rattle.octets.specs.{Buffer.laid}
 use Rattle.header.specs.{declared.HeaderRefusal.TheVariants.Ended, Read.read_header}
 use Rattle.pieces.specs.declared.{HeaderReader.HeaderReader, PieceAnswer.PieceAnswer, PieceTaken.PieceTaken}

@@ -1,5 +1,5 @@
 -- What the reader's own functions tell on the way to an answer: no part of its definition.
-use Rattle.octets.specs.Words.{ℕ, min, cond, List, ◌++◌, ltb, length}
+use Rattle.std.specs.Prelude.{ℕ, min, cond, List, ◌++◌, ltb, length}
 use Rattle.header.specs.{Read.read_header}
 use Rattle.pieces.specs.declared.{HeaderReader.HeaderReader, PieceAnswer.PieceAnswer}
 use Rattle.pieces.specs.declared.PieceAnswer.TheVariants.{More}

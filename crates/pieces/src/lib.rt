@@ -3,7 +3,7 @@
 #![tactic(auto)]
 
 ghost use Rattle.std.specs.Prelude.{max};
-ghost use Rattle.octets.specs.Words.{◌≤◌, true, ◌≡◌, length, take};
+ghost use Rattle.std.specs.Prelude.{◌≤◌, true, ◌≡◌, length, take};
 ghost use Rattle.pieces.specs.Needed.{control_unseen, needed};
 ghost use Rattle.pieces.specs.Answer.{told, piece_outcome};
 ghost use Rattle.pieces.specs.Reader.{header_most, new_reader, waits, over, cut_short, taken, ended};

@@ -1,6 +1,7 @@
 -- Calls of a reader, one after the other, and what they hand back (document 02, request 1: "for each way of cutting the
 -- input").
-use Rattle.octets.specs.Words.{ℕ, ◌+◌, Bool, true, false, cond, List, [], ◌∷◌, map, flat_map}
+use Rattle.std.specs.Prelude.{ℕ, ◌+◌, Bool, true, false, cond, List, [], ◌∷◌, map}
+use Rattle.octets.specs.Words.{flat_map}
 use Rattle.pieces.specs.declared.{HeaderReader.HeaderReader, PieceAnswer.PieceAnswer, PieceTaken.PieceTaken}
 use Rattle.pieces.specs.declared.PieceAnswer.TheVariants.{More, Done, Refused, Over}
 use Rattle.pieces.specs.Reader.{taken, ended}

@@ -1,6 +1,6 @@
 -- That `needed` counts the bytes that the whole reader's answer needs (document 02, request 1: "with the last byte
 -- needed"): with them the answer stands, whatever follows, and with fewer it does not.
-use Rattle.octets.specs.Words.{ℕ, ◌≤◌, ◌<◌, List, ◌++◌, ◌≡◌, length, take}
+use Rattle.std.specs.Prelude.{ℕ, ◌≤◌, ◌<◌, List, ◌++◌, ◌≡◌, length, take}
 use Rattle.header.specs.{declared.Header.Header, declared.HeaderRefusal.HeaderRefusal, Read.read_number, Read.read_header}
 use Rattle.header.specs.declared.HeaderRead.TheVariants.{Read, Refused}
 use Rattle.header.specs.declared.HeaderRefusal.TheVariants.{Ended}

@@ -1,5 +1,5 @@
 -- The reader in pieces beside the whole reader, however the bytes of a frame are cut (document 02, request 1).
-use Rattle.octets.specs.Words.{ℕ, ◌+◌, ◌-◌, ◌≤◌, ◌<◌, cond, List, [], ◌∷◌, ◌++◌, ◌≡◌, leb, length}
+use Rattle.std.specs.Prelude.{ℕ, ◌+◌, ◌-◌, ◌≤◌, ◌<◌, cond, List, [], ◌∷◌, ◌++◌, ◌≡◌, leb, length}
 use Rattle.octets.specs.{Outcome.refused}
 use Rattle.header.specs.{declared.HeaderRead.HeaderRead, Read.read_header}
 use Rattle.header.specs.declared.HeaderRead.TheVariants.{Read, Refused}

@@ -1,7 +1,7 @@
 -- One look at the frame control (document 02, request 7): "a constant table of 256 entries, indexed by compression,
 -- security and frame-control bits 10 to 15, giving the refusal 2, 4 or 5, or the length up to the security control,
 -- that byte included".
-use Rattle.octets.specs.Words.{ℕ, ◌+◌, ◌*◌, ◌^◌, Bool, List, [], ◌∷◌, map, eqb}
+use Rattle.std.specs.Prelude.{ℕ, ◌+◌, ◌*◌, ◌^◌, Bool, List, [], ◌∷◌, map, eqb}
 use Rattle.octets.specs.{Bits.bits, Order.first}
 use Rattle.header_bytes.specs.{Layout.source_end, Reading.unshared}
 

@@ -3,7 +3,7 @@
 // up to its security control. No record is made.
 #![tactic(auto)]
 
-ghost use Rattle.octets.specs.Words.{◌+◌, ◌*◌, ◌≤◌, ◌<◌, [], ◌∷◌, ◌≡◌, ltb};
+ghost use Rattle.std.specs.Prelude.{◌+◌, ◌*◌, ◌≤◌, ◌<◌, [], ◌∷◌, ◌≡◌, ltb};
 ghost use Rattle.header_bytes.specs.{Layout.security_size, Reading.answered, Reading.measured};
 ghost use Rattle.quick.specs.Code.{code_of};
 ghost use Rattle.quick.specs.Table.{index_of, entry_of, table_at};

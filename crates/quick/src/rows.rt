@@ -1,6 +1,6 @@
 // The table again, four entries to a row, for the reader: an array that is indexed is laid on the stack at each call,
 // and this becomes data and one load.
-ghost use Rattle.octets.specs.Words.{◌<◌, ◌≡◌};
+ghost use Rattle.std.specs.Prelude.{◌<◌, ◌≡◌};
 ghost use Rattle.octets.specs.Little.{join};
 ghost use Rattle.quick.specs.Table.{row_of};
 

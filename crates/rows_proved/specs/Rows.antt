@@ -1,6 +1,6 @@
 -- Document 01, "Frames to try", rows P1 to P13: what reading a header, a beacon or a GTS field answers, its record, its
 -- lengths, and what writing it again gives. P12 and P13 are as requests 6 and 2 of document 02 change them.
-use Rattle.octets.specs.Words.{ℕ, Bool, true, false, cond, List, [], ◌∷◌, eqb, replicate}
+use Rattle.std.specs.Prelude.{ℕ, Bool, true, false, cond, List, [], ◌∷◌, eqb, replicate}
 use Rattle.octets.specs.declared.{Outcome.Outcome}
 use Rattle.octets.specs.Value.{value_outcome}
 use Rattle.key_identifier.specs.declared.{OptionalKeySource.OptionalKeySource}

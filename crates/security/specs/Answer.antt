@@ -1,6 +1,6 @@
 -- What reading and writing a security header answers: reading only 1; writing 8, then 7, then 1 (document 01, "Refusal
 -- numbers").
-use Rattle.octets.specs.Words.{ℕ, List, [], ◌∷◌}
+use Rattle.std.specs.Prelude.{ℕ, List, [], ◌∷◌}
 use Rattle.octets.specs.{declared.Outcome.Outcome, Order.first, Outcome.accepted, Outcome.refused, Part.ends}
 use Rattle.security_control.specs.Control.{level_too_large}
 use Rattle.security.specs.declared.{AuxiliarySecurityHeader.AuxiliarySecurityHeader}

@@ -1,5 +1,5 @@
 -- What may be absent: a header's security part, and the counter that a writer is handed.
-use Rattle.octets.specs.Words.{ℕ, Bool, true, false, cond, ◌&&◌, List, []}
+use Rattle.std.specs.Prelude.{ℕ, Bool, true, false, cond, ◌&&◌, List, []}
 use Rattle.security_control.specs.Control.{level_too_large}
 use Rattle.security.specs.declared.{OptionalCounter.OptionalCounter}
 use Rattle.security.specs.declared.{OptionalSecurityHeader.OptionalSecurityHeader}

@@ -1,5 +1,5 @@
 -- Demand 3 for a security header: read, written again with the counter that was read, and read once more.
-use Rattle.octets.specs.Words.{ℕ, ◌+◌, ◌-◌, ◌≤◌, List, ◌++◌, ◌≡◌, length, take, drop}
+use Rattle.std.specs.Prelude.{ℕ, ◌+◌, ◌-◌, ◌≤◌, List, ◌++◌, ◌≡◌, length, take, drop}
 use Rattle.octets.specs.{Bits.clear_at, Buffer.laid}
 use Rattle.security_control.specs.Control.{security_control_of}
 use Rattle.key_identifier.specs.Key.{mode_of_key}

@@ -1,6 +1,6 @@
 -- The auxiliary security header, document 01, "Header layout" (IEEE 802.15.4-2011, 7.4): control (1), frame counter
 -- (4), key identifier.
-use Rattle.octets.specs.Words.{ℕ, ◌+◌, ◌<◌, List, ◌++◌}
+use Rattle.std.specs.Prelude.{ℕ, ◌+◌, ◌<◌, List, ◌++◌}
 use Rattle.octets.specs.Little.{number, split}
 use Rattle.security_control.specs.declared.{SecurityControl.SecurityControl}
 use Rattle.security_control.specs.Control.{security_control_of, security_control_in, security_control_bits}

@@ -1,6 +1,6 @@
 -- The security control byte, document 01, "Header layout" (IEEE 802.15.4-2011, 7.4.1): level bits 0-2, all eight
 -- accepted, key mode bits 3-4, bits 5-7 not read.
-use Rattle.octets.specs.Words.{ℕ, ◌+◌, ◌*◌, ◌^◌, Bool, List, [], ◌∷◌, ltb}
+use Rattle.std.specs.Prelude.{ℕ, ◌+◌, ◌*◌, ◌^◌, Bool, List, [], ◌∷◌, ltb}
 use Rattle.octets.specs.{declared.Outcome.Outcome, Outcome.accepted, Outcome.refused, Order.first}
 use Rattle.octets.specs.{Bits.bits, Bits.find, Little.number, Part.ends}
 use Rattle.security_control.specs.declared.{KeyIdentifierMode.KeyIdentifierMode, SecurityControl.SecurityControl}

@@ -1,7 +1,7 @@
 // The security control byte: security level and key identifier mode.
 #![tactic(auto)]
 
-ghost use Rattle.octets.specs.Words.{◌≤◌, ◌≡◌};
+ghost use Rattle.std.specs.Prelude.{◌≤◌, ◌≡◌};
 ghost use Rattle.octets.specs.Buffer.{after};
 ghost use Rattle.octets.specs.Little.{split};
 ghost use Rattle.octets.specs.Value.{write_value, value_outcome};

@@ -1,6 +1,6 @@
 -- What is counted of a sender, by the sequence numbers of its frames in the order in which they were heard: document 02,
 -- request 3, "For each sender it compares sequence numbers".
-use Rattle.octets.specs.Words.{ℕ, ◌+◌, ◌-◌, ◌%◌, cond, List, [], ◌∷◌, ltb, eqb, length}
+use Rattle.std.specs.Prelude.{ℕ, ◌+◌, ◌-◌, ◌%◌, cond, List, [], ◌∷◌, ltb, eqb, length}
 use Rattle.senders.specs.{declared.Sender.Sender, declared.Counted.Counted}
 
 -- "the step from the last one is taken around 256, so 255 to 0 is a step of one"

@@ -1,5 +1,5 @@
 -- What one more frame does to the counts of senders.
-use Rattle.octets.specs.Words.{ℕ, suc, ◌+◌, ◌<◌, Bool, cond, not, ◌||◌, ◌&&◌, List, [], ◌∷◌, ◌++◌, map, ltb, length}
+use Rattle.std.specs.Prelude.{ℕ, suc, ◌+◌, ◌<◌, Bool, cond, not, ◌||◌, ◌&&◌, List, [], ◌∷◌, ◌++◌, map, ltb, length}
 use Rattle.senders.specs.{declared.Sender.Sender, declared.Counted.Counted, Sender.same, Sender.among}
 use Rattle.senders.specs.Counts.{step_to, repeats_by, missing_by}
 

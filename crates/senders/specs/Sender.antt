@@ -1,6 +1,6 @@
 -- Senders: document 02, request 3, "A sender is a source address with its PAN id". A short and an extended address are
 -- never the same.
-use Rattle.octets.specs.Words.{Bool, false, ◌||◌, ◌&&◌, List, [], ◌∷◌, eqb}
+use Rattle.std.specs.Prelude.{Bool, false, ◌||◌, ◌&&◌, List, [], ◌∷◌, eqb}
 use Rattle.senders.specs.{declared.Sender.Sender}
 
 abbrev pub same : Sender → Sender → Bool

@@ -1,6 +1,6 @@
 -- Counts of senders in a table of numbers, a row of seven for each of at most sixty-four.
-use Rattle.octets.specs.Words.{ℕ, zero, suc, ◌+◌, ◌*◌, Bool, cond, not, ◌||◌, ◌&&◌, List, [], ◌∷◌, ◌++◌, ltb, leb, eqb}
-use Rattle.octets.specs.Words.{length, get_or, set}
+use Rattle.std.specs.Prelude.{ℕ, zero, suc, ◌+◌, ◌*◌, Bool, cond, not, ◌||◌, ◌&&◌, List, [], ◌∷◌, ◌++◌, ltb, leb, eqb}
+use Rattle.std.specs.Prelude.{length, get_or, set}
 use Rattle.octets.specs.{Order.first}
 use Rattle.senders.specs.{declared.Sender.Sender, declared.Counted.Counted}
 use Rattle.senders.specs.Hearing.{senders_most, no_one, first_heard, heard_again, place_of, can_go_on}

@@ -2,7 +2,7 @@
 // counts of at most sixty-four stand in a table that the caller lends, a row of seven numbers for each.
 #![tactic(auto)]
 
-ghost use Rattle.octets.specs.Words.{◌≤◌, ◌<◌, ◌&&◌, ◌≡◌, leb, eqb, length};
+ghost use Rattle.std.specs.Prelude.{◌≤◌, ◌<◌, ◌&&◌, ◌≡◌, leb, eqb, length};
 ghost use Rattle.senders.specs.Sender.{same};
 ghost use Rattle.senders.specs.Counts.{step_to, repeats_by, missing_by};
 ghost use Rattle.senders.specs.Hearing.{senders_most, first_heard, heard_again, Countable, can_go_on};

@@ -1,6 +1,6 @@
 -- Arrays of seven, of which the first n places are in use (document 01, "Beacon layout": "Unused places of the arrays
 -- of seven hold" the empty entry).
-use Rattle.octets.specs.Words.{ℕ, Bool, false, cond, ◌||◌, List, [], ◌∷◌, map, ltb, get_or}
+use Rattle.std.specs.Prelude.{ℕ, Bool, false, cond, ◌||◌, List, [], ◌∷◌, map, ltb, get_or}
 
 -- the entries 0 to n - 1, and empty ones behind them
 unfoldable pub seven : {A : Type 0} → (ℕ → A) → A → ℕ → List A

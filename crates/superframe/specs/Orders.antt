@@ -1,5 +1,5 @@
 -- Beacon order and superframe order: document 01, "15 means OnDemand and Inactive" (IEEE 802.15.4-2011, 5.2.2.1.2).
-use Rattle.octets.specs.Words.{ℕ, Bool, false, cond, ltb}
+use Rattle.std.specs.Prelude.{ℕ, Bool, false, cond, ltb}
 use Rattle.superframe.specs.declared.{BeaconOrder.BeaconOrder, SuperframeOrder.SuperframeOrder}
 
 -- the order of a number: 0 to 14 are themselves

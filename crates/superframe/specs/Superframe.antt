@@ -1,7 +1,7 @@
 -- The superframe specification, document 01, "Beacon layout" (IEEE 802.15.4-2011, 5.2.2.1.2). Byte 0: beacon order (low
 -- half), superframe order (high half). Byte 1: final slot bits 0-3, battery extension 4, bit 5 not read, coordinator 6,
 -- association permit 7.
-use Rattle.octets.specs.Words.{ℕ, ◌+◌, ◌*◌, ◌^◌, Bool, false, ◌||◌, List, [], ◌∷◌, ◌++◌, ltb}
+use Rattle.std.specs.Prelude.{ℕ, ◌+◌, ◌*◌, ◌^◌, Bool, false, ◌||◌, List, [], ◌∷◌, ◌++◌, ltb}
 use Rattle.octets.specs.declared.{ValueWritten.ValueWritten}
 use Rattle.octets.specs.Bits.{bits, bit, bit_of}
 use Rattle.octets.specs.Little.{number, split}

@@ -3,7 +3,7 @@
 // and writing measure before they call those that do (`requires`).
 #![tactic(auto)]
 
-ghost use Rattle.octets.specs.Words.{◌+◌, ◌-◌, ◌≤◌, false, ◌≡◌, length};
+ghost use Rattle.std.specs.Prelude.{◌+◌, ◌-◌, ◌≤◌, false, ◌≡◌, length};
 ghost use Rattle.octets.specs.Buffer.{laid, after};
 ghost use Rattle.octets.specs.Value.{value_outcome};
 ghost use Rattle.superframe.specs.Orders.{beacon_order_of, beacon_order_bits, beacon_order_too_large, superframe_order_of};

@@ -1,7 +1,7 @@
 -- The direction of a guaranteed time slot, seen from the device that it is for (IEEE 802.15.4-2011, 5.2.2.1.4).
 -- Document 02, request 6, where document 01 has the crate's "set is Transmit": "a set bit is Receive, a clear bit
 -- Transmit".
-use Rattle.octets.specs.Words.{ℕ, cond, eqb}
+use Rattle.std.specs.Prelude.{ℕ, cond, eqb}
 use Rattle.time_slots.specs.declared.{Direction.Direction}
 use Rattle.time_slots.specs.declared.Direction.TheVariants.{Receive, Transmit}
 

@@ -1,8 +1,9 @@
 -- GTS information, document 01, "Beacon layout" (IEEE 802.15.4-2011, 5.2.2.1.3 to 5.2.2.1.5). Header: count n bits 0-2,
 -- permit 7. For n > 0 a direction byte, then n descriptors. Bit k of the direction byte belongs to descriptor k. Document
 -- 02, request 2, where document 01 has 2+3n: "For n > 0 let it demand 1+3n after its header", which is what it takes.
-use Rattle.octets.specs.Words.{ℕ, zero, suc, ◌+◌, ◌*◌, ◌^◌, Bool, false, ◌||◌, List, [], ◌∷◌, ◌++◌, flat_map, ltb, take}
-use Rattle.octets.specs.Words.{replicate}
+use Rattle.std.specs.Prelude.{ℕ, zero, suc, ◌+◌, ◌*◌, ◌^◌, Bool, false, ◌||◌, List, [], ◌∷◌, ◌++◌, ltb, take}
+use Rattle.octets.specs.Words.{flat_map}
+use Rattle.std.specs.Prelude.{replicate}
 use Rattle.octets.specs.declared.{ValueWritten.ValueWritten}
 use Rattle.octets.specs.Bits.{bits, bit, bit_of}
 use Rattle.octets.specs.Little.{number, split}

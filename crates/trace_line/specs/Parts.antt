@@ -1,7 +1,7 @@
 -- A line of a trace taken apart from a place of a list on, as far as it is of its form, by a table of what bytes count
 -- for in a pair of hex digits, whatever the table has. Where it is of its form, what follows its last pair of digits
 -- tells whether the line ends there.
-use Rattle.octets.specs.Words.{ℕ, ◌+◌, ◌*◌, Bool, true, false, cond, ◌&&◌, List, [], length, drop}
+use Rattle.std.specs.Prelude.{ℕ, ◌+◌, ◌*◌, Bool, true, false, cond, ◌&&◌, List, [], length, drop}
 use Rattle.line_cutter.specs.Line.{tab_byte, before, is_at}
 use Rattle.hexadecimal.specs.{Hex.decoded_by}
 use Rattle.decimal.specs.{declared.Decimal.Decimal, Decimal.decimal_in}

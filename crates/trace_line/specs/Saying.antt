@@ -1,6 +1,6 @@
 -- What a line of a trace says, given without its line feed: document 02, request 3, "one frame a line: tick, antenna,
 -- header size as `get_octet_size` gives it, bytes in hex, parted by tabs".
-use Rattle.octets.specs.Words.{ℕ, ◌≤◌, ◌<◌, Bool, cond, not, ◌||◌, List, ltb, eqb, length}
+use Rattle.std.specs.Prelude.{ℕ, ◌≤◌, ◌<◌, Bool, cond, not, ◌||◌, List, ltb, eqb, length}
 use Rattle.address.specs.declared.{Address.Address, OptionalAddress.OptionalAddress}
 use Rattle.address.specs.declared.Address.TheVariants.{Short, Extended}
 use Rattle.address.specs.declared.OptionalAddress.TheVariants.{Absent, Present}

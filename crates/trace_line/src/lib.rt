@@ -2,7 +2,7 @@
 // says.
 #![tactic(auto)]
 
-ghost use Rattle.octets.specs.Words.{◌≤◌, ◌≡◌, length};
+ghost use Rattle.std.specs.Prelude.{◌≤◌, ◌≡◌, length};
 ghost use Rattle.octets.specs.Buffer.{laid};
 ghost use Rattle.trace_line.specs.Parts.{no_parts, decimal_field, frame_in, parts_in};
 ghost use Rattle.trace_line.specs.Saying.{sender_of, of_source, of_header, Spoken};
