@@ -41,8 +41,8 @@ outcome_length : (r : HeaderRead) (s : List ℕ) → read_header s ≡ r → (re
 outcome_length (Read h n) s e = (length_bounds s h n e).1
 outcome_length (Refused r) s e = omega arith
 
-pub read_number : (s : List ℕ) → (read_outcome (read_header s)).number ≤ 5
-read_number s = outcome_number (read_header s)
+pub read_number_lem : (s : List ℕ) → (read_outcome (read_header s)).number ≤ 5
+read_number_lem s = outcome_number (read_header s)
 
 pub read_length : (s : List ℕ) → (read_outcome (read_header s)).length ≤ 37
 read_length s = outcome_length (read_header s) s refl

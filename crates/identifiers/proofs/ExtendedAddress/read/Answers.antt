@@ -1,6 +1,5 @@
 -- `identifiers::ExtendedAddress::read` meets its contract: its test is the definition's.
 -- Assumes nothing.
-use borrow.Author.Rules.{rules}
 use Rattle.octets.proofs.Part.{fewer, enough}
 use Rattle.identifiers.specs.ExtendedAddress.{read_extended}
 use Rattle.identifiers.proofs.ExtendedAddress.read.Goals as goal

@@ -1,6 +1,5 @@
 -- `identifiers::PanId::read` meets its contract: its test is the definition's.
 -- Assumes nothing.
-use borrow.Author.Rules.{rules}
 use Rattle.octets.proofs.Part.{fewer, enough}
 use Rattle.identifiers.specs.PanId.{read_pan_id}
 use Rattle.identifiers.proofs.PanId.read.Goals as goal

@@ -1,6 +1,5 @@
 -- `identifiers::PanIdRead::outcome` meets its contract: each case has its number and length.
 -- Assumes nothing.
-use borrow.Author.Rules.{rules}
 use Rattle.identifiers.proofs.PanIdRead.outcome.Goals as goal
 
 pub returns-in-Read : goal.returns-in-Read

@@ -1,6 +1,5 @@
 -- `identifiers::ShortAddress::read` meets its contract: its test is the definition's.
 -- Assumes nothing.
-use borrow.Author.Rules.{rules}
 use Rattle.octets.proofs.Part.{fewer, enough}
 use Rattle.identifiers.specs.ShortAddress.{read_short}
 use Rattle.identifiers.proofs.ShortAddress.read.Goals as goal

@@ -7,7 +7,7 @@ use borrow.Author.Rules.{rules}
 use lib.ListN.{length}
 use lib.Seq.{take_all}
 use Rattle.header.specs.Read.{read_header, read_outcome}
-use Rattle.header.proofs.Bounds.{read_number, read_length}
+use Rattle.header.proofs.Bounds.{read_number_lem, read_length}
 use Rattle.octets.specs.Stored.{Stored}
 use Rattle.octets.proofs.Stored.{join, same}
 use Rattle.lines.proofs.one_line.put_good.Statement.{statement}
