@@ -13,8 +13,8 @@ returns c =
     let fits = fitting c.args.self c.requires in record {
       value = omega (
         arith,
-        c.size.ensures.value ∙ slots.plain_size _ fits.slots-1,
-        c.size-2.ensures.value ∙ pending.plain_size _ fits.pending-1,
+        c.size.ensures.value ∙ slots.plain_size _ fits.slots,
+        c.size-2.ensures.value ∙ pending.plain_size _ fits.pending,
       );
       upper_bound = omega (arith, c.size.ensures.upper_bound, c.size-2.ensures.upper_bound);
     }
