@@ -1,16 +1,16 @@
--- `quick::entry` meets its contract: the table's rule is one test, computed at each of its entries. What is tested is what the function
--- returns, as a function of its index, so the table stands in the code alone.
+-- `quick::entry` meets its contract: the table's rule is one test, computed at each of its entries. What is tested is the table that the
+-- function reads, so the table stands in the code alone.
 -- Assumes nothing.
-use Prim.Native.Nat.{ℕ}
-use borrow.Author.Rules.{rules}
-use borrow.Fn.Function.{res_v}
-use Rattle.octets.proofs.Each.{same}
+use Rattle.std.proofs.Common.{◌≡◌, ℕ, ◌<◌, List, get_or, rules}
+use lib.Dec.{T, eqb}
+use Rattle.octets.proofs.Each.{below, same}
 use Rattle.quick.specs.Table.{table_at}
-use Rattle.quick.proofs.entry.Reads as reads
-use Rattle.quick.proofs.entry.Lts as lts
 use Rattle.quick.proofs.entry.Goals as goal
 
+-- a table that follows the rule at each index, as a computed test tells
+as_ruled : (table : List ℕ) (i : ℕ) → T (below (λ (k : ℕ). eqb (get_or table k 0) (table_at k)) 256) → i < 256 →
+    get_or table i 0 ≡ table_at i
+as_ruled table i t h = same (λ (k : ℕ). get_or table k 0) table_at 256 t i h
+
 pub returns : goal.returns
-returns c =
-    same (λ (i : ℕ). res_v lts.r tt (lts.m13 reads.Pre reads.Post (record { i = i }) c.blocks).0) table_at 256 tt c.args.i
-    (search rules)
+returns c = search (rules, as_ruled)

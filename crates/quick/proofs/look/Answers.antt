@@ -2,7 +2,6 @@
 -- Assumes nothing.
 use Prim.Native.Nat.{ℕ, ◌+◌, ◌*◌, ◌/◌, ◌%◌, ◌^◌}
 use mathlib.Core.Path.{ap, ◌∙◌}
-use borrow.Author.Rules.{rules}
 use Rattle.octets.specs.Little.{join}
 use Rattle.octets.proofs.Each.{same}
 use Rattle.quick.specs.Table.{table_at, row_of}

@@ -4,7 +4,6 @@ use Prim.Native.Nat.{ℕ, ◌-◌, ◌%◌}
 use native.Mathlib.Omega.{arith}
 use mathlib.Core.List.{List}
 use mathlib.Core.Path.{◌≡◌, sym, ap, ◌∙◌}
-use borrow.Author.Rules.{rules}
 use borrow.Author.Tests.{ne_eqb}
 use Rattle.octets.specs.{Little.number, Outcome.accepted, Outcome.refused}
 use Rattle.header_bytes.specs.{Layout.header_end, Reading.read_tests, Reading.measured}
