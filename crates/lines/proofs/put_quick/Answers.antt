@@ -51,12 +51,12 @@ returns c =
 pub returns-then-not-is_at : goal.returns-then-not-is_at
 returns-then-not-is_at c =
     let still : (let a = c.args in let rest = a.used + 5 * (length a.chunk.now - a.at) in (◌≡◌ {A = ℕ} 0 0) × ((a.at ≤ a.at) × ((a.at ≤ length a.chunk.now) × (rest ≤ rest)))) = (refl, (omega arith, (c.requires.at_in_bounds, omega arith))) in
-    let both = (refl, still) in record {
-      used_after = both.0;
-      n_value = both.1.0;
-      at_le_at = both.1.1.0;
-      at_in_bounds_3 = both.1.1.1.0;
-      at_bound = both.1.1.1.1;
+    record {
+      used_after = refl;
+      n_value = still.0;
+      at_le_at = still.1.0;
+      at_in_bounds_3 = still.1.1.0;
+      at_bound = still.1.1.1;
     }
 
 pub overflow_add-tab : goal.overflow_add-tab
@@ -90,23 +90,23 @@ overflow_add-end-2 c =
 pub returns-then-not-is_at-2 : goal.returns-then-not-is_at-2
 returns-then-not-is_at-2 c =
     let still : (let a = c.args in let rest = a.used + 5 * (length a.chunk.now - a.at) in (◌≡◌ {A = ℕ} 0 0) × ((a.at ≤ a.at) × ((a.at ≤ length a.chunk.now) × (rest ≤ rest)))) = (refl, (omega arith, (c.requires.at_in_bounds, omega arith))) in
-    let both = (refl, still) in record {
-      used_after = both.0;
-      n_value = both.1.0;
-      at_le_at = both.1.1.0;
-      at_in_bounds_3 = both.1.1.1.0;
-      at_bound = both.1.1.1.1;
+    record {
+      used_after = refl;
+      n_value = still.0;
+      at_le_at = still.1.0;
+      at_in_bounds_3 = still.1.1.0;
+      at_bound = still.1.1.1;
     }
 
 pub returns-then-end-at-gt-LINE_MOST : goal.returns-then-end-at-gt-LINE_MOST
 returns-then-end-at-gt-LINE_MOST c =
     let still : (let a = c.args in let rest = a.used + 5 * (length a.chunk.now - a.at) in (◌≡◌ {A = ℕ} 0 0) × ((a.at ≤ a.at) × ((a.at ≤ length a.chunk.now) × (rest ≤ rest)))) = (refl, (omega arith, (c.requires.at_in_bounds, omega arith))) in
-    let both = (refl, still) in record {
-      used_after = both.0;
-      n_value = both.1.0;
-      at_le_at = both.1.1.0;
-      at_in_bounds_3 = both.1.1.1.0;
-      at_bound = both.1.1.1.1;
+    record {
+      used_after = refl;
+      n_value = still.0;
+      at_le_at = still.1.0;
+      at_in_bounds_3 = still.1.1.0;
+      at_bound = still.1.1.1;
     }
 
 pub slice_bounds-put_good-end : goal.slice_bounds-put_good-end

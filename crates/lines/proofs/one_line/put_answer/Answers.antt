@@ -43,7 +43,7 @@ returns c =
     let whole : (c.part-parted.result.tab + 1 ≤ length c.args.line.now) × (length (take c.part-parted.result.tab c.args.line.now) ≡ c.part-parted.result.tab) =
     let w = (parted).whole (not-false _ c.if-not-parted.false) in
     (omega (arith, w), length-take-le _ _ (omega (arith, w))) in
-    let w = (parted).well_formed (not-false _ c.if-not-parted.false) said in record {
+    let w = (parted).good (not-false _ c.if-not-parted.false) said in record {
       stored = same w c.put_good.ensures.stored;
       upper_bound = omega (arith, c.put_good.ensures.upper_bound, (whole).0, (whole).1);
     }
