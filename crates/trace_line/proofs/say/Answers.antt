@@ -11,8 +11,7 @@ use Rattle.header.specs.declared.HeaderRead.TheVariants.{Read, Refused as Refuse
 use Rattle.header.specs.Record.{octet_size}
 use Rattle.trace_line.specs.declared.Saying.TheVariants.{Unread, Refused}
 use Rattle.trace_line.specs.Saying.{of_source, of_header}
-use Rattle.trace_line.proofs.say.Statement.{statement}
-use Rattle.trace_line.proofs.say.Tie as tie
+use Rattle.trace_line.proofs.say.Goals as goal
 
 -- what was read tells what is said
 refuses : (h : HeaderRead) (r : HeaderRefusal) (size : ℕ) → h ≡ RefusedHeader r → Refused ≡ of_header h size
@@ -25,28 +24,23 @@ module _ (h : HeaderRead) (x : Header) (n size : ℕ) (e : h ≡ Read x n) where
   disagrees : (size ≡ octet_size x → ⊥) → Unread ≡ of_header h size
   disagrees f = rw e (simp (ne_eqb size (octet_size x) f))
 
-refused : tie.Need-returns
-refused c =
-    let r = c.before.before in
-    (refuses _ _ _ (sym r.read.ensures ∙ c.enum_told.given.1), tt)
+pub returns-in-Refused : goal.returns-in-Refused
+returns-in-Refused c =
+    record {
+      value = refuses _ _ _ (sym c.read.ensures ∙ c.in-Refused.is);
+      spoken = tt;
+    }
 
-heard : tie.Need-returns-2
-heard c =
-    let i = c.before in
-    let z = i.before in
-    let k = z.before.before in
-    let r = k.before.before in
-    (c.of-source.ensures.0 ∙ agrees _ _ _ _ (sym r.read.ensures ∙ k.header.given.1) (i.if1.true ∙ z.get-octet-size.ensures), c.of-source.ensures.1)
+pub returns-then-size-get_octet_size : goal.returns-then-size-get_octet_size
+returns-then-size-get_octet_size c =
+    record {
+      value = c.of_source.ensures.value ∙ agrees _ _ _ _ (sym c.read.ensures ∙ c.in-Read.is) (c.if-size-get_octet_size.true ∙ c.get_octet_size.ensures);
+      spoken = c.of_source.ensures.spoken;
+    }
 
-other : tie.Need-returns-3
-other c =
-    let z = c.before in
-    let k = z.before.before in
-    let r = k.before.before in
-    (disagrees _ _ _ _ (sym r.read.ensures ∙ k.header.given.1) (λ e. c.if1.false (e ∙ sym z.get-octet-size.ensures)), tt)
-
-pub say_spec : {M : Type 1} → statement M
-say_spec =
-    tie.close
-    (tie.spec (λ c κs. search rules) (λ c. search rules) (λ c. search rules) (λ c κs. search rules) (λ c κs. search rules)
-    refused heard other)
+pub returns-else-size-get_octet_size : goal.returns-else-size-get_octet_size
+returns-else-size-get_octet_size c =
+    record {
+      value = disagrees _ _ _ _ (sym c.read.ensures ∙ c.in-Read.is) (λ e. c.if-size-get_octet_size.false (e ∙ sym c.get_octet_size.ensures));
+      spoken = tt;
+    }
