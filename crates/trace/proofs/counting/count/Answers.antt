@@ -1,0 +1,59 @@
+-- `trace::counting::count` meets its contract: each kind of line is counted as the definition has it.
+-- Assumes nothing.
+use native.Mathlib.Omega.{arith}
+use borrow.Author.Rules.{rules}
+use Rattle.trace.proofs.Stepping.{later, on_unread, on_refused, on_sourceless, on_counted, on_crowded}
+use Rattle.trace.proofs.counting.count.Goals as goal
+
+pub returns-then-counts-ge-LINES_MOST : goal.returns-then-counts-ge-LINES_MOST
+returns-then-counts-ge-LINES_MOST c =
+    let both = later c.args.counts c.args.table.now c.requires.within c.args.said c.one_more.result (omega (arith, c.if-counts-ge-LINES_MOST.true)) c.one_more.ensures in record {
+      table_after = both.0;
+      answer_value = both.1.0;
+      within_2 = both.1.1;
+    }
+
+pub returns-in-Unread : goal.returns-in-Unread
+returns-in-Unread c =
+    let both = on_unread c.args.counts c.args.table.now c.requires.within (omega (arith, c.if-counts-ge-LINES_MOST.false)) c.args.said c.requires.spoken
+    c.one_more-in-Unread.result c.in-Unread.is c.one_more-in-Unread.ensures in record {
+      table_after = both.0;
+      answer_value = both.1.0;
+      within_2 = both.1.1;
+    }
+
+pub returns-in-Refused : goal.returns-in-Refused
+returns-in-Refused c =
+    let both = on_refused c.args.counts c.args.table.now c.requires.within (omega (arith, c.if-counts-ge-LINES_MOST.false)) c.args.said c.requires.spoken
+    c.in-Refused.is in record {
+      table_after = both.0;
+      answer_value = both.1.0;
+      within_2 = both.1.1;
+    }
+
+pub returns-in-Sourceless : goal.returns-in-Sourceless
+returns-in-Sourceless c =
+    let both = on_sourceless c.args.counts c.args.table.now c.requires.within (omega (arith, c.if-counts-ge-LINES_MOST.false)) c.args.said c.requires.spoken
+    c.in-Sourceless.is in record {
+      table_after = both.0;
+      answer_value = both.1.0;
+      within_2 = both.1.1;
+    }
+
+pub returns-then-heard : goal.returns-then-heard
+returns-then-heard c =
+    let both = on_counted c.args.counts c.args.table.now c.requires.within (omega (arith, c.if-counts-ge-LINES_MOST.false)) c.args.said c.requires.spoken
+    _ _ c.in-Heard.is c.requires.table_len _ c.hear-heard.ensures.table_after _ c.hear-heard.ensures.rows_value _ c.hear-heard.ensures.counted_value c.if-heard.true in record {
+      table_after = both.0;
+      answer_value = both.1.0;
+      within_2 = both.1.1;
+    }
+
+pub returns-else-heard : goal.returns-else-heard
+returns-else-heard c =
+    let both = on_crowded c.args.counts c.args.table.now c.requires.within (omega (arith, c.if-counts-ge-LINES_MOST.false)) c.args.said c.requires.spoken
+    _ _ c.in-Heard.is c.requires.table_len _ c.hear-heard.ensures.table_after _ c.hear-heard.ensures.rows_value _ c.hear-heard.ensures.counted_value c.if-heard.false in record {
+      table_after = both.0;
+      answer_value = both.1.0;
+      within_2 = both.1.1;
+    }
