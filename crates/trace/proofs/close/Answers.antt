@@ -26,7 +26,7 @@ tell_last-told-requires c =
 pub put_summary-requires : goal.put_summary-requires
 put_summary-requires c =
     record {
-      rows_le_senders_most = omega (arith, c.tell_last-told.ensures.within_2.room, rows_length c.tell_last-told.new.table c.tell_last-told.result.counts-1.rows);
+      rows_le_senders_most = omega (arith, c.tell_last-told.ensures.within_2.room, rows_length c.tell_last-told.new.table c.tell_last-told.result.counts.rows);
       table_len = c.tell_last-told.auto.table ∙ c.requires.table_len;
       all_small = c.tell_last-told.ensures.within_2.senders;
     }
@@ -34,7 +34,7 @@ put_summary-requires c =
 pub returns : goal.returns
 unfolding closing
 returns c =
-    let t = trace_of c.tell_last-told.result.counts-1 c.tell_last-told.new.table in
+    let t = trace_of c.tell_last-told.result.counts c.tell_last-told.new.table in
     let most = summary_most t c.tell_last-told.ensures.within_2 in
     let room : c.tell_last-told.result.used + length (summary t) ≤ length c.tell_last-told.new.out =
     omega (arith, most, c.tell_last-told.ensures.used_bound, c.tell_last-told.auto.out, c.requires.in_bounds) in

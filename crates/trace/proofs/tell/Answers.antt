@@ -18,7 +18,7 @@ returns c =
     let t = trace_of c.args.counts c.args.table.now in
     let most = said_most t c.args.said in
     let room : c.args.used + length (says_said t c.args.said) ≤ length c.args.out.now = omega (arith, most, c.requires.used_in_bounds) in
-    let named : message c.count-answered.result.counts-1.lines c.count-answered.result.answer ≡ says_said t c.args.said =
+    let named : message c.count-answered.result.counts.lines c.count-answered.result.answer ≡ says_said t c.args.said =
     rw (c.count-answered.ensures.answer_value, ap (λ (u : Trace). u.lines) c.count-answered.ensures.table_after) (message_said t c.args.said) in
     let written = roomy room (same named c.put_message-next.ensures) in record {
       table_after = c.count-answered.ensures.table_after;

@@ -17,7 +17,7 @@ use Rattle.pieces.proofs.HeaderReader.gather.Goals as goal
 pub loop-count-init : goal.loop-count-init
 loop-count-init c =
     let wants = waiting c.args.self c.requires in (
-      mapped _ c.args.self.bytes-1 37 c.well_formed.0.1.1.0.1.0.1,
+      search rules,
       omega (arith, wants.0, wants.1),
       wants.1,
       omega arith,

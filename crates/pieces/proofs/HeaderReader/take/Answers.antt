@@ -13,14 +13,14 @@ use Rattle.pieces.proofs.HeaderReader.take.Goals as goal
 pub overflow_sub-used : goal.overflow_sub-used
 overflow_sub-used c =
     let waiting : waits c.args.self ≡ true = sym c.waits.ensures ∙ c.if-waits.true in
-    let whole : length c.args.self.bytes ≡ 37 = mapped _ c.args.self.bytes 37 c.well_formed.0.1.1.0.1.0.1 in
+    let whole : length c.args.self.bytes ≡ 37 = search rules in
     let a = c.args in
     rw c.gather-next.ensures.value (gathered_more a.self a.piece.now (whole) (waiting))
 
 pub returns-then-waits : goal.returns-then-waits
 returns-then-waits c =
     let waiting : waits c.args.self ≡ true = sym c.waits.ensures ∙ c.if-waits.true in
-    let whole : length c.args.self.bytes ≡ 37 = mapped _ c.args.self.bytes 37 c.well_formed.0.1.1.0.1.0.1 in
+    let whole : length c.args.self.bytes ≡ 37 = search rules in
     let a = c.args in
     (λ i. record {
       reader = c.gather-next.ensures.value i;
