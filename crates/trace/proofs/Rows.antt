@@ -32,8 +32,8 @@ rows_who hs (k ∷ ks) = ap (λ (l : List Sender). k ∷ l) (rows_who hs ks)
 
 -- who has a row, and how many there are
 module _ (hs : List (Sender × ℕ)) where
-  is_known : (who : Sender) → is_known who (senders_in hs) ≡ among who (known hs)
-  is_known who = ap (among who) (rows_who hs (known hs))
+  is_known_lem : (who : Sender) → is_known who (senders_in hs) ≡ among who (known hs)
+  is_known_lem who = ap (among who) (rows_who hs (known hs))
 
   known_many : length (senders_in hs) ≡ length (known hs)
   known_many = length-map (known hs) (λ (who : Sender). counts_of who (numbers_of who hs))
@@ -78,7 +78,7 @@ module _ (hs : List (Sender × ℕ)) where
     pub heard_on : heard_of who n (senders_in hs) ≡ senders_in (hs ++ ((who, n) ∷ []))
     unfolding heard_of
     heard_on =
-        rw (is_known who, known_many)
+        rw (is_known_lem who, known_many)
         (cases (holds? (among who (known hs)))
         (λ t. simp (t, known_again hs who n t) (rows_hear (known hs) (known_distinct hs) (known_numbers hs)))
         (λ t.
@@ -93,7 +93,7 @@ module _ (hs : List (Sender × ℕ)) where
     pub crowd_on : strangers (known hs) hs + bit_of (is_crowded who (senders_in hs))
         ≡ strangers (known (hs ++ ((who, n) ∷ []))) (hs ++ ((who, n) ∷ []))
     crowd_on =
-        rw (is_known who, known_many, strangers_on (known (hs ++ ((who, n) ∷ []))) who n hs)
+        rw (is_known_lem who, known_many, strangers_on (known (hs ++ ((who, n) ∷ []))) who n hs)
         (cases (holds? (among who (known hs)))
         (λ t. simp (t, known_again hs who n t))
         (λ t.
@@ -109,7 +109,7 @@ module _ (hs : List (Sender × ℕ)) where
     -- a sender without a place never has one later on
     pub crowd_ahead : (ts : List (Sender × ℕ)) → is_crowded who (senders_in hs) ≡ not (among who (known (hs ++ ((who, n) ∷ ts))))
     crowd_ahead ts =
-        rw (is_known who, known_many)
+        rw (is_known_lem who, known_many)
         (cases (holds? (among who (known hs)))
         (λ t. simp (t, known_keeps hs ((who, n) ∷ ts) who t))
         (λ t.

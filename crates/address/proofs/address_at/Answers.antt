@@ -1,6 +1,5 @@
 -- `address::address_at` meets its contract: each field is the definition's, the address behind its PAN id or where the slice ends.
 -- Assumes nothing.
-use borrow.Author.Rules.{rules}
 use Rattle.octets.proofs.Little.{number_behind}
 use Rattle.address.specs.Layout.{pan_length, address_in}
 use Rattle.address.proofs.address_at.Goals as goal

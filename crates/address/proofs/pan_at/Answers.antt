@@ -1,6 +1,5 @@
 -- `address::pan_at` meets its contract: by whether the PAN id is in the frame.
 -- Assumes nothing.
-use borrow.Author.Rules.{rules}
 use Rattle.address.proofs.pan_at.Goals as goal
 
 pub returns-then-own : goal.returns-then-own

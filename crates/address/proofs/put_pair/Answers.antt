@@ -2,7 +2,6 @@
 -- Assumes nothing.
 use mathlib.Core.Path.{◌∙◌}
 use native.Mathlib.Omega.{arith}
-use borrow.Author.Rules.{rules}
 use Rattle.octets.proofs.Buffer.{laid_on}
 use Rattle.address.proofs.Addresses.{pan_length_lem}
 use Rattle.address.proofs.put_pair.Goals as goal

@@ -3,7 +3,6 @@
 use native.Mathlib.Omega.{arith}
 use Prim.Native.Nat.{◌+◌}
 use mathlib.Core.Path.{◌∙◌}
-use borrow.Author.Rules.{rules}
 use Rattle.address.specs.Layout.{address_length}
 use Rattle.address_pair.proofs.Own.{to_own, from_own, no_length}
 use Rattle.address_pair.proofs.addresses_end.Goals as goal

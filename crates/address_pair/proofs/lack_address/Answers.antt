@@ -1,6 +1,5 @@
 -- `address_pair::lack_address` meets its contract: by the flag and the two addresses.
 -- Assumes nothing.
-use borrow.Author.Rules.{rules}
 use Rattle.address_pair.proofs.lack_address.Goals as goal
 
 pub returns-then-compress : goal.returns-then-compress

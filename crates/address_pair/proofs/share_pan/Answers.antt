@@ -1,6 +1,5 @@
 -- `address_pair::share_pan` meets its contract: without both addresses there is nothing to share, and else the PAN ids are compared.
 -- Assumes nothing.
-use borrow.Author.Rules.{rules}
 use lib.Dec.{eqb}
 use Rattle.address_pair.proofs.share_pan.Goals as goal
 

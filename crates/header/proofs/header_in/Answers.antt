@@ -1,7 +1,6 @@
 -- `header::header_in` meets its contract: each field is the definition's.
 -- Assumes nothing.
 use mathlib.Core.Path.{◌≡◌, ap, ◌∙◌}
-use borrow.Author.Rules.{rules}
 use Rattle.identifiers.specs.PanId.{pan}
 use Rattle.address.specs.Address.{shared_pan}
 use Rattle.address.specs.Layout.{address_in}

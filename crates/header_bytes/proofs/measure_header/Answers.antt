@@ -6,7 +6,6 @@ use mathlib.Core.Bool.{true, false}
 use mathlib.Core.Path.{◌≡◌, ap, ◌∙◌}
 use lib.Dec.{eqb}
 use borrow.Author.Tests.{lt-ltb, le-ltb, eq-eqb, ne_eqb}
-use borrow.Author.Rules.{rules}
 use lib.ListN.{drop}
 use Rattle.octets.specs.declared.Outcome.{Outcome}
 use Rattle.octets.proofs.Bits.{bits_low}

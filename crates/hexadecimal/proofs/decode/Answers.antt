@@ -3,7 +3,6 @@
 use Prim.Native.Nat.{ℕ}
 use mathlib.Core.List.{List}
 use mathlib.Core.Path.{◌≡◌, subst}
-use borrow.Author.Rules.{rules}
 use lib.ListN.{length}
 use Rattle.octets.specs.Buffer.{laid}
 use Rattle.octets.proofs.Little.{bytes_known}

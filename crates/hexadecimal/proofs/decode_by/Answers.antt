@@ -1,15 +1,13 @@
 -- `hexadecimal::decode_by` meets its contract. The invariant: what is left to decode, stored from where the loop stands, gives what is wanted.
 -- Assumes nothing.
-use Prim.Native.Nat.{ℕ, ◌+◌, ◌-◌, ◌*◌, ◌≤◌, ◌<◌}
+use Prim.Native.Nat.{ℕ, ◌+◌, ◌*◌, ◌<◌}
 use native.Mathlib.Omega.{arith}
 use mathlib.Core.List.{List, []}
 use mathlib.Core.Path.{◌≡◌, refl, sym, ap, ◌∙◌}
-use borrow.Author.Rules.{rules}
 use lib.ListN.{length, get_or, length-set}
 use Rattle.octets.specs.Buffer.{laid}
 use Rattle.octets.proofs.Buffer.{laid_none, laid_cons}
-use Rattle.hexadecimal.specs.Hex.{decoded_by}
-use Rattle.hexadecimal.proofs.Hex.{by_other, rest, rest_all, rest_pair, rest_none, rest_end}
+use Rattle.hexadecimal.proofs.Hex.{by_other, rest_all, rest_pair, rest_none, rest_end}
 use Rattle.hexadecimal.proofs.decode_by.Goals as goal
 
 -- nothing is left to decode

@@ -1,15 +1,11 @@
 -- `hexadecimal::decode_by` meets its contract. The invariant: what is left to decode, stored from where the loop stands, gives what is wanted.
 -- Assumes nothing.
-use Prim.Native.Nat.{ℕ, ◌+◌, ◌-◌, ◌*◌, ◌≤◌, ◌<◌}
-use native.Mathlib.Omega.{arith}
-use mathlib.Core.List.{List, []}
-use mathlib.Core.Path.{◌≡◌, refl, sym, ap, ◌∙◌}
-use borrow.Author.Rules.{rules}
-use lib.ListN.{length, get_or, length-set}
+use Prim.Native.Nat.{◌+◌, ◌-◌, ◌*◌, ◌≤◌}
+use mathlib.Core.Path.{◌≡◌}
+use lib.ListN.{length}
 use Rattle.octets.specs.Buffer.{laid}
-use Rattle.octets.proofs.Buffer.{laid_none, laid_cons}
 use Rattle.hexadecimal.specs.Hex.{decoded_by}
-use Rattle.hexadecimal.proofs.Hex.{by_other, rest, rest_all, rest_pair, rest_none, rest_end}
+use Rattle.hexadecimal.proofs.Hex.{rest}
 use Rattle.hexadecimal.proofs.decode_by.Given as goal
 
 abbrev pub invariant-loop-n : goal.invariant-loop-n

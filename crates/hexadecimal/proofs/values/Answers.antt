@@ -1,11 +1,10 @@
 -- `hexadecimal::values` meets its contract. The invariant: the table has what each byte before the one at hand counts for.
 -- Assumes nothing.
-use Prim.Native.Nat.{ℕ, ◌+◌, ◌-◌, ◌≤◌, ◌<◌}
+use Prim.Native.Nat.{ℕ, ◌+◌, ◌≤◌, ◌<◌}
 use native.Mathlib.Numerals.{add-one}
 use native.Mathlib.Omega.{arith}
 use mathlib.Core.List.{List, []}
 use mathlib.Core.Path.{◌≡◌, refl, sym, ap, ◌∙◌}
-use borrow.Author.Rules.{rules}
 use lib.ListN.{length, set, take, length-set, length-replicate}
 use lib.Seq.{take_all, take-suc-set}
 use Rattle.hexadecimal.specs.Hex.{worth, worths}

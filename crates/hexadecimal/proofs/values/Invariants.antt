@@ -1,14 +1,9 @@
 -- `hexadecimal::values` meets its contract. The invariant: the table has what each byte before the one at hand counts for.
 -- Assumes nothing.
-use Prim.Native.Nat.{ℕ, ◌+◌, ◌-◌, ◌≤◌, ◌<◌}
-use native.Mathlib.Numerals.{add-one}
-use native.Mathlib.Omega.{arith}
-use mathlib.Core.List.{List, []}
-use mathlib.Core.Path.{◌≡◌, refl, sym, ap, ◌∙◌}
-use borrow.Author.Rules.{rules}
-use lib.ListN.{length, set, take, length-set, length-replicate}
-use lib.Seq.{take_all, take-suc-set}
-use Rattle.hexadecimal.specs.Hex.{worth, worths}
+use Prim.Native.Nat.{◌-◌, ◌≤◌}
+use mathlib.Core.Path.{◌≡◌}
+use lib.ListN.{length, take}
+use Rattle.hexadecimal.specs.Hex.{worths}
 use Rattle.hexadecimal.proofs.values.Given as goal
 
 abbrev pub invariant-loop-b : goal.invariant-loop-b

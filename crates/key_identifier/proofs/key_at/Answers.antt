@@ -1,6 +1,5 @@
 -- `key_identifier::key_at` meets its contract: each field is the definition's, the index behind the source or where the slice ends.
 -- Assumes nothing.
-use borrow.Author.Rules.{rules}
 use Rattle.octets.proofs.Little.{number_behind}
 use Rattle.key_identifier.specs.Key.{key_in}
 use Rattle.key_identifier.proofs.key_at.Goals as goal

@@ -2,7 +2,6 @@
 -- Assumes nothing.
 use mathlib.Core.Path.{sym, ◌∙◌}
 use native.Mathlib.Omega.{arith}
-use borrow.Author.Rules.{rules}
 use Rattle.octets.proofs.Buffer.{laid_none, laid_on}
 use Rattle.key_identifier.specs.Key.{key_bytes}
 use Rattle.key_identifier.proofs.Keys.{source_key, source_length_lem}

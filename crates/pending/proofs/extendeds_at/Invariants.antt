@@ -1,10 +1,8 @@
 -- `pending::extendeds_at` meets its contract. The invariant: the places passed hold their addresses, and the others are broadcast.
 -- Assumes nothing.
 use Prim.Native.Nat.{◌-◌, ◌≤◌}
-use native.Mathlib.Omega.{arith}
-use mathlib.Core.Path.{◌≡◌, sym, ap, ◌∙◌}
-use Rattle.seven_places.proofs.Seven.{seven_none, seven_more}
-use Rattle.pending.specs.Addresses.{extended_at, extendeds_in}
+use mathlib.Core.Path.{◌≡◌}
+use Rattle.pending.specs.Addresses.{extendeds_in}
 use Rattle.pending.proofs.extendeds_at.Given as goal
 
 abbrev pub invariant-loop-k : goal.invariant-loop-k

@@ -1,11 +1,8 @@
 -- `pending::put_extendeds` meets its contract. The invariant: what is still to be stored, from where the loop stands, gives what is wanted.
 -- Assumes nothing.
-use Prim.Native.Nat.{◌+◌, ◌-◌, ◌*◌, ◌≤◌}
+use Prim.Native.Nat.{◌+◌, ◌*◌}
 use native.Mathlib.Omega.{arith}
-use mathlib.Core.List.{flat_map}
 use mathlib.Core.Path.{◌≡◌, refl, sym, ◌∙◌}
-use lib.ListN.{length, take, drop}
-use Rattle.octets.specs.Buffer.{laid}
 use Rattle.octets.proofs.Little.{split_length}
 use Rattle.seven_places.proofs.Seven.{put_next, put_done}
 use Rattle.pending.specs.Addresses.{extended_bytes}
@@ -15,17 +12,16 @@ pub loop-k-init : goal.loop-k-init
 loop-k-init c = let e : c.args.at + 8 * 0 ≡ c.args.at = omega arith in (omega arith, (refl, rw e))
 
 pub loop-k-preserved : goal.loop-k-preserved
-loop-k-preserved c =
-    (
-      omega arith,
-      (
-        c.put.auto.out ∙ c.loop-k.invariant.1.0,
-        put_next extended_bytes 8 c.args.addresses c.args.n c.loop-k.k _ c.loop-k.out c.args.at
-            (omega (arith, c.well_formed.0.1.0.1)) (omega arith)
-            (split_length 8 _) c.put.ensures.out_after
-            ∙ c.loop-k.invariant.1.1,
-      ),
-    )
+loop-k-preserved c = (
+  omega arith,
+  (
+    c.put.auto.out ∙ c.loop-k.invariant.1.0,
+    put_next extended_bytes 8 c.args.addresses c.args.n c.loop-k.k _ c.loop-k.out c.args.at
+        (omega (arith, c.well_formed.0.1.0.1)) (omega arith)
+        (split_length 8 _) c.put.ensures.out_after
+        ∙ c.loop-k.invariant.1.1,
+  ),
+)
 
 pub shape_of-out : goal.shape_of-out
 shape_of-out c = c.loop-k.invariant.1.0

@@ -1,13 +1,10 @@
 -- `pending::put_shorts` meets its contract. The invariant: what is still to be stored, from where the loop stands, gives what is wanted.
 -- Assumes nothing.
 use Prim.Native.Nat.{◌+◌, ◌-◌, ◌*◌, ◌≤◌}
-use native.Mathlib.Omega.{arith}
 use mathlib.Core.List.{flat_map}
-use mathlib.Core.Path.{◌≡◌, refl, sym, ◌∙◌}
+use mathlib.Core.Path.{◌≡◌}
 use lib.ListN.{length, take, drop}
 use Rattle.octets.specs.Buffer.{laid}
-use Rattle.octets.proofs.Little.{split_length}
-use Rattle.seven_places.proofs.Seven.{put_next, put_done}
 use Rattle.pending.specs.Addresses.{short_bytes}
 use Rattle.pending.proofs.put_shorts.Given as goal
 

@@ -1,6 +1,5 @@
 -- `pending::shorts_at` meets its contract. The invariant: the places passed hold their addresses, and the others are broadcast.
 -- Assumes nothing.
-use Prim.Native.Nat.{◌-◌, ◌≤◌}
 use native.Mathlib.Omega.{arith}
 use mathlib.Core.Path.{◌≡◌, sym, ap, ◌∙◌}
 use Rattle.seven_places.proofs.Seven.{seven_none, seven_more}

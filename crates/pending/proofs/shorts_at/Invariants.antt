@@ -1,10 +1,8 @@
 -- `pending::shorts_at` meets its contract. The invariant: the places passed hold their addresses, and the others are broadcast.
 -- Assumes nothing.
 use Prim.Native.Nat.{◌-◌, ◌≤◌}
-use native.Mathlib.Omega.{arith}
-use mathlib.Core.Path.{◌≡◌, sym, ap, ◌∙◌}
-use Rattle.seven_places.proofs.Seven.{seven_none, seven_more}
-use Rattle.pending.specs.Addresses.{short_at, shorts_in}
+use mathlib.Core.Path.{◌≡◌}
+use Rattle.pending.specs.Addresses.{shorts_in}
 use Rattle.pending.proofs.shorts_at.Given as goal
 
 abbrev pub invariant-loop-k : goal.invariant-loop-k

@@ -1,10 +1,7 @@
 -- `time_slots::directions` meets its contract. The invariant: the byte has the directions from where the loop stands on.
 -- Assumes nothing.
-use Prim.Native.Nat.{◌≤◌}
 use native.Mathlib.Omega.{arith}
 use mathlib.Core.Path.{◌≡◌, ◌∙◌}
-use borrow.Author.Rules.{rules}
-use lib.ListN.{take, drop}
 use Rattle.seven_places.proofs.Seven.{rest_none}
 use Rattle.time_slots.specs.TimeSlots.{directions_of}
 use Rattle.time_slots.proofs.TimeSlots.{directions_more, directions_bound}
@@ -25,12 +22,11 @@ overflow_add-byte c =
     omega (arith, c.loop-k.invariant.1, c.to_bit.ensures.upper_bound)
 
 pub loop-k-preserved : goal.loop-k-preserved
-loop-k-preserved c =
-    (
-      omega arith,
-      directions_more c.args.slots c.args.n c.loop-k.k _ (omega (arith, c.well_formed.0.1.0.1)) (omega arith) (omega arith)
-          c.to_bit.ensures.value c.loop-k.invariant.1,
-    )
+loop-k-preserved c = (
+  omega arith,
+  directions_more c.args.slots c.args.n c.loop-k.k _ (omega (arith, c.well_formed.0.1.0.1)) (omega arith) (omega arith)
+      c.to_bit.ensures.value c.loop-k.invariant.1,
+)
 
 pub returns : goal.returns
 returns c =

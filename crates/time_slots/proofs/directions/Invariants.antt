@@ -1,13 +1,9 @@
 -- `time_slots::directions` meets its contract. The invariant: the byte has the directions from where the loop stands on.
 -- Assumes nothing.
 use Prim.Native.Nat.{◌≤◌}
-use native.Mathlib.Omega.{arith}
-use mathlib.Core.Path.{◌≡◌, ◌∙◌}
-use borrow.Author.Rules.{rules}
+use mathlib.Core.Path.{◌≡◌}
 use lib.ListN.{take, drop}
-use Rattle.seven_places.proofs.Seven.{rest_none}
 use Rattle.time_slots.specs.TimeSlots.{directions_of}
-use Rattle.time_slots.proofs.TimeSlots.{directions_more, directions_bound}
 use Rattle.time_slots.proofs.directions.Given as goal
 
 abbrev pub invariant-loop-k : goal.invariant-loop-k

@@ -4,7 +4,6 @@ use Prim.Native.Nat.{◌≤◌}
 use mathlib.Core.Path.{sym}
 use Rattle.octets.proofs.Buffer.{laid_none, laid_on}
 use native.Mathlib.Omega.{arith}
-use borrow.Author.Rules.{rules}
 use lib.ListN.{length}
 use Rattle.octets.proofs.Little.{split_length}
 use Rattle.time_slots.proofs.TimeSlots.{length_some, list_none, list_some}
@@ -25,12 +24,12 @@ put_slots-requires c =
       n_bound = c.requires.n_bound;
       slots_value = c.requires.slots_value;
       n_in_bounds = omega (
-          arith,
-          c.put-next.auto.out,
-          c.put-next.ensures.value,
-          length_some c.args.n c.if-n-eq0.false,
-          c.requires.n_in_bounds,
-        );
+        arith,
+        c.put-next.auto.out,
+        c.put-next.ensures.value,
+        length_some c.args.n c.if-n-eq0.false,
+        c.requires.n_in_bounds,
+      );
     }
 
 pub returns : goal.returns

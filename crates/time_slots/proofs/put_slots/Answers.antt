@@ -1,11 +1,8 @@
 -- `time_slots::put_slots` meets its contract. The invariant: what is still to be stored, from where the loop stands, gives what is wanted.
 -- Assumes nothing.
-use Prim.Native.Nat.{◌+◌, ◌-◌, ◌*◌, ◌≤◌}
+use Prim.Native.Nat.{◌+◌, ◌*◌}
 use native.Mathlib.Omega.{arith}
-use mathlib.Core.List.{flat_map}
 use mathlib.Core.Path.{◌≡◌, refl, sym, ◌∙◌}
-use lib.ListN.{length, take, drop}
-use Rattle.octets.specs.Buffer.{laid}
 use Rattle.seven_places.proofs.Seven.{some_fails, put_next, put_done}
 use Rattle.time_slots.specs.Descriptor.{descriptor_bytes, descriptor_too_large}
 use Rattle.time_slots.proofs.Descriptor.{descriptor_length}
@@ -20,17 +17,16 @@ put-requires c =
     c.requires.slots_value
 
 pub loop-k-preserved : goal.loop-k-preserved
-loop-k-preserved c =
-    (
-      omega arith,
-      (
-        c.put.auto.out ∙ c.loop-k.invariant.1.0,
-        put_next descriptor_bytes 3 c.args.slots c.args.n c.loop-k.k _ c.loop-k.out c.args.at
-            (omega (arith, c.well_formed.0.1.0.1)) (omega arith)
-            (descriptor_length _) c.put.ensures
-            ∙ c.loop-k.invariant.1.1,
-      ),
-    )
+loop-k-preserved c = (
+  omega arith,
+  (
+    c.put.auto.out ∙ c.loop-k.invariant.1.0,
+    put_next descriptor_bytes 3 c.args.slots c.args.n c.loop-k.k _ c.loop-k.out c.args.at
+        (omega (arith, c.well_formed.0.1.0.1)) (omega arith)
+        (descriptor_length _) c.put.ensures
+        ∙ c.loop-k.invariant.1.1,
+  ),
+)
 
 pub shape_of-out : goal.shape_of-out
 shape_of-out c = c.loop-k.invariant.1.0

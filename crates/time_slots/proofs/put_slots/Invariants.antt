@@ -1,14 +1,11 @@
 -- `time_slots::put_slots` meets its contract. The invariant: what is still to be stored, from where the loop stands, gives what is wanted.
 -- Assumes nothing.
 use Prim.Native.Nat.{◌+◌, ◌-◌, ◌*◌, ◌≤◌}
-use native.Mathlib.Omega.{arith}
 use mathlib.Core.List.{flat_map}
-use mathlib.Core.Path.{◌≡◌, refl, sym, ◌∙◌}
+use mathlib.Core.Path.{◌≡◌}
 use lib.ListN.{length, take, drop}
 use Rattle.octets.specs.Buffer.{laid}
-use Rattle.seven_places.proofs.Seven.{some_fails, put_next, put_done}
-use Rattle.time_slots.specs.Descriptor.{descriptor_bytes, descriptor_too_large}
-use Rattle.time_slots.proofs.Descriptor.{descriptor_length}
+use Rattle.time_slots.specs.Descriptor.{descriptor_bytes}
 use Rattle.time_slots.proofs.put_slots.Given as goal
 
 abbrev pub invariant-loop-k : goal.invariant-loop-k

@@ -1,6 +1,5 @@
 -- `time_slots::slot_at` meets its contract.
 -- Assumes nothing.
-use borrow.Author.Rules.{rules}
 use Rattle.time_slots.specs.TimeSlots.{slot_at}
 use Rattle.time_slots.proofs.slot_at.Goals as goal
 

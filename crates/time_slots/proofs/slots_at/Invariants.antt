@@ -1,12 +1,8 @@
 -- `time_slots::slots_at` meets its contract. The invariant: the places passed hold their slots, and the others are empty.
 -- Assumes nothing.
 use Prim.Native.Nat.{◌-◌, ◌≤◌}
-use native.Mathlib.Omega.{arith}
-use mathlib.Core.Path.{◌≡◌, sym, ap, ◌∙◌}
-use borrow.Author.Rules.{rules}
-use Rattle.seven_places.proofs.Seven.{seven_none, seven_more}
+use mathlib.Core.Path.{◌≡◌}
 use Rattle.time_slots.specs.TimeSlots.{slots_in}
-use Rattle.time_slots.proofs.TimeSlots.{length_some}
 use Rattle.time_slots.proofs.slots_at.Given as goal
 
 abbrev pub invariant-loop-k : goal.invariant-loop-k

@@ -2,7 +2,6 @@
 -- Assumes nothing.
 use mathlib.Core.Path.{sym}
 use native.Mathlib.Omega.{arith}
-use borrow.Author.Rules.{rules}
 use Rattle.time_slots.proofs.TimeSlots.{length_some}
 use Rattle.time_slots.proofs.slots_length.Goals as goal
 

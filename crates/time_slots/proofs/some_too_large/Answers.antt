@@ -1,11 +1,7 @@
 -- `time_slots::some_too_large` meets its contract. The invariant: what is left has such a slot if and only if the whole has.
 -- Assumes nothing.
-use Prim.Native.Nat.{◌-◌, ◌≤◌}
 use native.Mathlib.Omega.{arith}
-use mathlib.Core.Path.{◌≡◌, refl, sym, ◌∙◌}
-use borrow.Author.Rules.{rules}
-use lib.ListN.{take, drop}
-use Rattle.seven_places.specs.Seven.{some}
+use mathlib.Core.Path.{refl, sym, ◌∙◌}
 use Rattle.seven_places.proofs.Seven.{some_none, some_found, some_passed}
 use Rattle.time_slots.specs.Descriptor.{descriptor_too_large}
 use Rattle.time_slots.proofs.some_too_large.Goals as goal
@@ -17,13 +13,12 @@ returns-then-too_large c =
     (sym c.too_large.ensures ∙ c.if-too_large.true))
 
 pub loop-k-preserved : goal.loop-k-preserved
-loop-k-preserved c =
-    (
-      omega arith,
-      some_passed descriptor_too_large c.args.slots c.args.n c.loop-k.k _ (omega (arith, c.well_formed.0.1.0.1)) (omega arith)
-          (sym c.too_large.ensures ∙ c.if-too_large.false)
-          ∙ c.loop-k.invariant.1,
-    )
+loop-k-preserved c = (
+  omega arith,
+  some_passed descriptor_too_large c.args.slots c.args.n c.loop-k.k _ (omega (arith, c.well_formed.0.1.0.1)) (omega arith)
+      (sym c.too_large.ensures ∙ c.if-too_large.false)
+      ∙ c.loop-k.invariant.1,
+)
 
 pub returns : goal.returns
 returns c =

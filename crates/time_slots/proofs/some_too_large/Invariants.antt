@@ -1,12 +1,9 @@
 -- `time_slots::some_too_large` meets its contract. The invariant: what is left has such a slot if and only if the whole has.
 -- Assumes nothing.
 use Prim.Native.Nat.{◌-◌, ◌≤◌}
-use native.Mathlib.Omega.{arith}
-use mathlib.Core.Path.{◌≡◌, refl, sym, ◌∙◌}
-use borrow.Author.Rules.{rules}
+use mathlib.Core.Path.{◌≡◌}
 use lib.ListN.{take, drop}
 use Rattle.seven_places.specs.Seven.{some}
-use Rattle.seven_places.proofs.Seven.{some_none, some_found, some_passed}
 use Rattle.time_slots.specs.Descriptor.{descriptor_too_large}
 use Rattle.time_slots.proofs.some_too_large.Given as goal
 

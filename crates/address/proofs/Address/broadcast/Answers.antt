@@ -1,6 +1,5 @@
 -- `address::Address::broadcast` meets its contract: by the mode.
 -- Assumes nothing.
-use borrow.Author.Rules.{rules}
 use Rattle.address.proofs.Address.broadcast.Goals as goal
 
 pub returns-in-Short : goal.returns-in-Short

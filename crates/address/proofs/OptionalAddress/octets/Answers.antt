@@ -1,7 +1,6 @@
 -- `address::OptionalAddress::octets` meets its contract: it is the length of its mode.
 -- Assumes nothing.
 use mathlib.Core.Path.{ap, ◌∙◌}
-use borrow.Author.Rules.{rules}
 use Rattle.address.specs.Layout.{mode_length}
 use Rattle.address.proofs.OptionalAddress.octets.Goals as goal
 

@@ -1,6 +1,5 @@
 -- `address::OptionalAddress::shared_pan` meets its contract: by whether there is an address.
 -- Assumes nothing.
-use borrow.Author.Rules.{rules}
 use Rattle.address.proofs.OptionalAddress.shared_pan.Goals as goal
 
 pub returns-in-Absent : goal.returns-in-Absent

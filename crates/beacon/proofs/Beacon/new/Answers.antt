@@ -1,6 +1,5 @@
 -- `beacon::Beacon::new` meets its contract.
 -- Assumes nothing.
-use borrow.Author.Rules.{rules}
 use Rattle.beacon.proofs.Beacon.new.Goals as goal
 
 pub returns : goal.returns

@@ -2,7 +2,6 @@
 -- Assumes nothing.
 use mathlib.Core.Path.{◌∙◌}
 use native.Mathlib.Omega.{arith}
-use borrow.Author.Rules.{rules}
 use Rattle.time_slots.proofs.TimeSlots as slots
 use Rattle.pending.proofs.Pending as pending
 use Rattle.beacon.proofs.Content.{fitting}

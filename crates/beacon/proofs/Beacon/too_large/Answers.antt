@@ -1,7 +1,6 @@
 -- `beacon::Beacon::too_large` meets its contract: its tests are the definition's, in turn.
 -- Assumes nothing.
 use mathlib.Core.Path.{sym, ◌∙◌}
-use borrow.Author.Rules.{rules}
 use Rattle.beacon.specs.Beacon.{beacon_too_large}
 use Rattle.beacon.proofs.Beacon.too_large.Goals as goal
 

@@ -1,7 +1,6 @@
 -- `beacon::Beacon::write` meets its contract: the three ends of a writer, and `put` stores where there is room.
 -- Assumes nothing.
 use mathlib.Core.Path.{refl}
-use borrow.Author.Rules.{rules}
 use Rattle.octets.proofs.Value.{too_large, plain, no_room, all_room, stored}
 use Rattle.beacon.specs.Beacon.{write_beacon}
 use Rattle.beacon.proofs.Beacon.write.Goals as goal

@@ -1,6 +1,5 @@
 -- `beacon::BeaconRead::refused` meets its contract.
 -- Assumes nothing.
-use borrow.Author.Rules.{rules}
 use Rattle.beacon.proofs.BeaconRead.refused.Goals as goal
 
 pub returns : goal.returns

@@ -1,6 +1,5 @@
 -- `frame_control::AddressModeRead::outcome` meets its contract: each case has its number and length.
 -- Assumes nothing.
-use borrow.Author.Rules.{rules}
 use Rattle.frame_control.proofs.AddressModeRead.outcome.Goals as goal
 
 pub returns-in-Read : goal.returns-in-Read

@@ -4,7 +4,6 @@ use Prim.Native.Nat.{ℕ, ◌%◌}
 use mathlib.Core.Bool.{true, false}
 use mathlib.Core.Path.{◌≡◌, sym, ap, ◌∙◌}
 use borrow.Author.Tests.{eq-eqb, ne_eqb}
-use borrow.Author.Rules.{rules}
 use lib.Dec.{eqb}
 use Rattle.octets.specs.Bits.{bits}
 use Rattle.octets.proofs.Bits.{bits_low}

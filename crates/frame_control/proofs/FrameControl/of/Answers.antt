@@ -1,7 +1,6 @@
 -- `frame_control::FrameControl::of` meets its contract: each field is the definition's.
 -- Assumes nothing.
 use mathlib.Core.Path.{◌≡◌, sym, ap, ◌∙◌}
-use borrow.Author.Rules.{rules}
 use Rattle.octets.specs.Bits.{bits, bit}
 use Rattle.octets.proofs.Bits.{bits_low}
 use Rattle.frame_control.specs.Types.{known_type, type_in}

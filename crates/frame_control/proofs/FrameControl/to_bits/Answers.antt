@@ -1,7 +1,6 @@
 -- `frame_control::FrameControl::to_bits` meets its contract.
 -- Assumes nothing.
 use native.Mathlib.Omega.{arith}
-use borrow.Author.Rules.{rules}
 use Rattle.frame_control.specs.Control.{control_bits}
 use Rattle.frame_control.proofs.FrameControl.to_bits.Goals as goal
 

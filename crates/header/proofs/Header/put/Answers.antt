@@ -1,7 +1,6 @@
 -- `header::Header::put` meets its contract: each part is stored where the one before ends.
 -- Assumes nothing.
 use mathlib.Core.Path.{refl}
-use borrow.Author.Rules.{rules}
 use lib.ListN.{length}
 use Rattle.octets.proofs.Buffer.{stored_on}
 use Rattle.header.specs.Write.{fixed_bytes, addresses_bytes, header_bytes}

@@ -3,7 +3,6 @@
 use Prim.Native.Nat.{ℕ}
 use mathlib.Core.List.{◌++◌}
 use mathlib.Core.Path.{ap, ◌∙◌}
-use borrow.Author.Rules.{rules}
 use Rattle.octets.specs.Buffer.{laid}
 use Rattle.octets.specs.Little.{split}
 use Rattle.octets.proofs.Buffer.{stored_on}

@@ -1,7 +1,6 @@
 -- `header::Header::read` meets its contract: what measuring refuses is refused, and what it accepts is the record of the fields.
 -- Assumes nothing.
 use mathlib.Core.Path.{sym, ap, ◌∙◌}
-use borrow.Author.Rules.{rules}
 use Rattle.octets.specs.declared.Outcome.{Outcome}
 use Rattle.octets.specs.Little.{number}
 use Rattle.header_bytes.specs.Layout.{header_end}

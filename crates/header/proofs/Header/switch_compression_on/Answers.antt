@@ -1,7 +1,6 @@
 -- `header::Header::switch_compression_on` meets its contract: the test is the definition's.
 -- Assumes nothing.
 use mathlib.Core.Path.{sym, ap, ◌∙◌}
-use borrow.Author.Rules.{rules}
 use Rattle.header.specs.declared.HeaderEdited.TheVariants.{Edited}
 use Rattle.header.proofs.Header.switch_compression_on.Goals as goal
 

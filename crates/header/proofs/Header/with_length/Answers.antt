@@ -1,6 +1,5 @@
 -- `header::Header::with_length` meets its contract: the length alone is another.
 -- Assumes nothing.
-use borrow.Author.Rules.{rules}
 use Rattle.header.proofs.Header.with_length.Goals as goal
 
 pub returns : goal.returns

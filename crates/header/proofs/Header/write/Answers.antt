@@ -2,7 +2,6 @@
 -- Assumes nothing.
 use native.Mathlib.Nat.{sub-zero}
 use mathlib.Core.Path.{ap, ◌∙◌}
-use borrow.Author.Rules.{rules}
 use Rattle.header.specs.Write.{write_header}
 use Rattle.header.proofs.Header.write.Goals as goal
 

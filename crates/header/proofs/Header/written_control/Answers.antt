@@ -1,6 +1,5 @@
 -- `header::Header::written_control` meets its contract: each field is the record's.
 -- Assumes nothing.
-use borrow.Author.Rules.{rules}
 use Rattle.header.proofs.Header.written_control.Goals as goal
 
 pub returns : goal.returns

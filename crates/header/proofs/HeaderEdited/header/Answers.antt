@@ -1,6 +1,5 @@
 -- `header::HeaderEdited::header` meets its contract: each case holds the record.
 -- Assumes nothing.
-use borrow.Author.Rules.{rules}
 use Rattle.header.proofs.HeaderEdited.header.Goals as goal
 
 pub returns-in-Edited : goal.returns-in-Edited

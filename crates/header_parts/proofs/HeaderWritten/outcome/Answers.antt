@@ -1,6 +1,5 @@
 -- `header_parts::HeaderWritten::outcome` meets its contract: each case has its number and length.
 -- Assumes nothing.
-use borrow.Author.Rules.{rules}
 use Rattle.header_parts.proofs.HeaderWritten.outcome.Goals as goal
 
 pub returns-in-Written : goal.returns-in-Written

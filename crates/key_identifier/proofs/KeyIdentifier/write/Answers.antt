@@ -1,7 +1,6 @@
 -- `key_identifier::KeyIdentifier::write` meets its contract: its test is the definition's, and `put_key` stores what fits.
 -- Assumes nothing.
 use mathlib.Core.Path.{refl, ap, ◌∙◌}
-use borrow.Author.Rules.{rules}
 use Rattle.octets.proofs.Part.{fewer, enough}
 use Rattle.key_identifier.specs.Key.{key_length}
 use Rattle.key_identifier.proofs.KeyIdentifier.write.Goals as goal

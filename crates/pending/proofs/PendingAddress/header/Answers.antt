@@ -1,7 +1,6 @@
 -- `pending::PendingAddress::header` meets its contract: each count is at most seven.
 -- Assumes nothing.
 use native.Mathlib.Omega.{arith}
-use borrow.Author.Rules.{rules}
 use Rattle.pending.proofs.Pending.{fitting}
 use Rattle.pending.proofs.PendingAddress.header.Goals as goal
 

@@ -1,7 +1,6 @@
 -- `pending::PendingAddress::put` meets its contract: the header and the lists, two stores side by side, are one.
 -- Assumes nothing.
 use native.Mathlib.Omega.{arith}
-use borrow.Author.Rules.{rules}
 use Rattle.octets.proofs.Little.{split_length}
 use Rattle.octets.proofs.Buffer.{laid_two}
 use Rattle.pending.specs.Pending.{pending_bytes}

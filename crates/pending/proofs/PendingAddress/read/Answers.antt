@@ -1,7 +1,6 @@
 -- `pending::PendingAddress::read` meets its contract: its tests are the definition's, in turn.
 -- Assumes nothing.
 use native.Mathlib.Nat.{div-one}
-use borrow.Author.Rules.{rules}
 use Rattle.octets.proofs.Part.{fewer, enough}
 use Rattle.pending.specs.Pending.{pending_in, read_pending}
 use Rattle.pending.proofs.PendingAddress.read.Goals as goal

@@ -3,7 +3,6 @@
 use Prim.Native.Nat.{◌≤◌}
 use mathlib.Core.Path.{sym, ◌∙◌}
 use native.Mathlib.Omega.{arith}
-use borrow.Author.Rules.{rules}
 use Rattle.pending.proofs.Pending.{fitting}
 use Rattle.pending.proofs.PendingAddress.size.Goals as goal
 

@@ -1,6 +1,5 @@
 -- `pending::PendingRead::refused` meets its contract.
 -- Assumes nothing.
-use borrow.Author.Rules.{rules}
 use Rattle.pending.proofs.PendingRead.refused.Goals as goal
 
 pub returns : goal.returns

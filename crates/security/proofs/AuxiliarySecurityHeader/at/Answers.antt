@@ -1,6 +1,5 @@
 -- `security::AuxiliarySecurityHeader::at` meets its contract: each field is the definition's, at its place or where the slice ends.
 -- Assumes nothing.
-use borrow.Author.Rules.{rules}
 use Rattle.octets.proofs.Little.{number_behind}
 use Rattle.key_identifier.proofs.Keys.{key_behind}
 use Rattle.security.specs.Security.{control_at, security_in}

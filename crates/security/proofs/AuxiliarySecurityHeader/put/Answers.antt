@@ -1,7 +1,6 @@
 -- `security::AuxiliarySecurityHeader::put` meets its contract: each store begins where the one before ended.
 -- Assumes nothing.
 use native.Mathlib.Omega.{arith}
-use borrow.Author.Rules.{rules}
 use Rattle.octets.proofs.Buffer.{stored_on}
 use Rattle.octets.proofs.Little.{split_length}
 use Rattle.security.specs.Security.{security_bytes}

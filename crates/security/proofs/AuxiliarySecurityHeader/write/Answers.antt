@@ -2,7 +2,6 @@
 -- stored.
 -- Assumes nothing.
 use mathlib.Core.Path.{refl}
-use borrow.Author.Rules.{rules}
 use borrow.Author.Tests.{lt-ltb, le-ltb}
 use Rattle.octets.proofs.Part.{fewer, enough}
 use Rattle.security.specs.Answer.{write_security}

@@ -1,6 +1,5 @@
 -- `security::OptionalSecurityHeader::at` meets its contract: by whether there is a security part.
 -- Assumes nothing.
-use borrow.Author.Rules.{rules}
 use Rattle.security.proofs.OptionalSecurityHeader.at.Goals as goal
 
 pub returns-then-on : goal.returns-then-on

@@ -2,7 +2,6 @@
 -- Assumes nothing.
 use mathlib.Core.Path.{sym}
 use native.Mathlib.Omega.{arith}
-use borrow.Author.Rules.{rules}
 use Rattle.octets.proofs.Buffer.{laid_none}
 use Rattle.security.proofs.OptionalSecurityHeader.put.Goals as goal
 

@@ -1,6 +1,5 @@
 -- `security::OptionalSecurityHeader::too_large` meets its contract: by whether there is a security header.
 -- Assumes nothing.
-use borrow.Author.Rules.{rules}
 use Rattle.security.proofs.OptionalSecurityHeader.too_large.Goals as goal
 
 pub returns-in-Present : goal.returns-in-Present

@@ -1,6 +1,5 @@
 -- `security::SecurityHeaderRead::outcome` meets its contract: each case has its number and length.
 -- Assumes nothing.
-use borrow.Author.Rules.{rules}
 use Rattle.security.proofs.SecurityHeaderRead.outcome.Goals as goal
 
 pub returns-in-Read : goal.returns-in-Read

@@ -1,6 +1,5 @@
 -- `security::SecurityHeaderWritten::outcome` meets its contract: each case has its number and length.
 -- Assumes nothing.
-use borrow.Author.Rules.{rules}
 use Rattle.security.proofs.SecurityHeaderWritten.outcome.Goals as goal
 
 pub returns-in-Written : goal.returns-in-Written

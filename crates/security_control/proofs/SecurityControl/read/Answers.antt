@@ -1,6 +1,5 @@
 -- `security_control::SecurityControl::read` meets its contract: its test is the definition's.
 -- Assumes nothing.
-use borrow.Author.Rules.{rules}
 use Rattle.octets.proofs.Part.{fewer, enough}
 use Rattle.security_control.specs.Control.{read_security_control}
 use Rattle.security_control.proofs.SecurityControl.read.Goals as goal

@@ -1,7 +1,6 @@
 -- `security_control::SecurityControl::write` meets its contract: its tests are the definition's, in their order, and `put` stores the byte.
 -- Assumes nothing.
 use mathlib.Core.Path.{refl}
-use borrow.Author.Rules.{rules}
 use borrow.Author.Tests.{lt-ltb, le-ltb}
 use Rattle.octets.proofs.Part.{fewer, enough}
 use Rattle.security_control.proofs.SecurityControl.write.Goals as goal

@@ -1,6 +1,5 @@
 -- `security_control::SecurityControlRead::outcome` meets its contract: each case has its number and length.
 -- Assumes nothing.
-use borrow.Author.Rules.{rules}
 use Rattle.security_control.proofs.SecurityControlRead.outcome.Goals as goal
 
 pub returns-in-Read : goal.returns-in-Read

@@ -1,6 +1,5 @@
 -- `superframe::BeaconOrder::too_large` meets its contract.
 -- Assumes nothing.
-use borrow.Author.Rules.{rules}
 use Rattle.superframe.proofs.BeaconOrder.too_large.Goals as goal
 
 pub returns-in-BeaconOrder : goal.returns-in-BeaconOrder

@@ -1,6 +1,5 @@
 -- `superframe::SuperframeOrder::too_large` meets its contract.
 -- Assumes nothing.
-use borrow.Author.Rules.{rules}
 use Rattle.superframe.proofs.SuperframeOrder.too_large.Goals as goal
 
 pub returns-in-SuperframeOrder : goal.returns-in-SuperframeOrder

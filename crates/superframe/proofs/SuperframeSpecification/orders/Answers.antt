@@ -1,7 +1,6 @@
 -- `superframe::SuperframeSpecification::orders` meets its contract: each order has four bits.
 -- Assumes nothing.
 use native.Mathlib.Omega.{arith}
-use borrow.Author.Rules.{rules}
 use Rattle.superframe.proofs.Superframe.{fitting}
 use Rattle.superframe.proofs.SuperframeSpecification.orders.Goals as goal
 

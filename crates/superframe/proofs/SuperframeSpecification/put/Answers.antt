@@ -1,6 +1,5 @@
 -- `superframe::SuperframeSpecification::put` meets its contract: two stores side by side are one.
 -- Assumes nothing.
-use borrow.Author.Rules.{rules}
 use Rattle.octets.proofs.Little.{split_length}
 use Rattle.octets.proofs.Buffer.{laid_on}
 use Rattle.superframe.specs.Superframe.{superframe_bytes}

@@ -1,6 +1,5 @@
 -- `superframe::SuperframeSpecification::read` meets its contract: its test is the definition's.
 -- Assumes nothing.
-use borrow.Author.Rules.{rules}
 use Rattle.octets.proofs.Part.{fewer, enough}
 use Rattle.superframe.specs.Superframe.{read_superframe}
 use Rattle.superframe.proofs.SuperframeSpecification.read.Goals as goal

@@ -1,7 +1,6 @@
 -- `superframe::SuperframeSpecification::rest` meets its contract: the slot has four bits.
 -- Assumes nothing.
 use native.Mathlib.Omega.{arith}
-use borrow.Author.Rules.{rules}
 use Rattle.superframe.proofs.Superframe.{fitting}
 use Rattle.superframe.proofs.SuperframeSpecification.rest.Goals as goal
 

@@ -1,7 +1,6 @@
 -- `superframe::SuperframeSpecification::too_large` meets its contract: its tests are the definition's, in turn.
 -- Assumes nothing.
 use mathlib.Core.Path.{◌∙◌, sym}
-use borrow.Author.Rules.{rules}
 use Rattle.superframe.specs.Superframe.{superframe_too_large}
 use Rattle.superframe.proofs.SuperframeSpecification.too_large.Goals as goal
 

@@ -1,7 +1,6 @@
 -- `superframe::SuperframeSpecification::write` meets its contract: the three ends of a writer, and `put` stores where there is room.
 -- Assumes nothing.
 use mathlib.Core.Path.{refl}
-use borrow.Author.Rules.{rules}
 use Rattle.octets.proofs.Value.{too_large, plain, no_room, stored}
 use Rattle.superframe.specs.Superframe.{write_superframe}
 use Rattle.superframe.proofs.SuperframeSpecification.write.Goals as goal

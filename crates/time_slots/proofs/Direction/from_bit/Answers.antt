@@ -1,7 +1,6 @@
 -- `time_slots::Direction::from_bit` meets its contract.
 -- Assumes nothing.
 use mathlib.Core.Path.{sym, ◌∙◌}
-use borrow.Author.Rules.{rules}
 use borrow.Author.Tests.{eq-eqb, ne_eqb}
 use Rattle.time_slots.proofs.Direction.from_bit.Goals as goal
 

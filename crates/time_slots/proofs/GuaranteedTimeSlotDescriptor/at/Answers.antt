@@ -1,7 +1,6 @@
 -- `time_slots::GuaranteedTimeSlotDescriptor::at` meets its contract.
 -- Assumes nothing.
 use native.Mathlib.Nat.{div-one}
-use borrow.Author.Rules.{rules}
 use Rattle.time_slots.specs.Descriptor.{descriptor_in}
 use Rattle.time_slots.proofs.GuaranteedTimeSlotDescriptor.at.Goals as goal
 

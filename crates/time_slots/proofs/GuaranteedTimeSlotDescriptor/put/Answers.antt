@@ -1,7 +1,6 @@
 -- `time_slots::GuaranteedTimeSlotDescriptor::put` meets its contract: two stores side by side are one.
 -- Assumes nothing.
 use native.Mathlib.Omega.{arith}
-use borrow.Author.Rules.{rules}
 use Rattle.octets.proofs.Little.{split_length}
 use Rattle.octets.proofs.Buffer.{laid_on}
 use Rattle.time_slots.specs.Descriptor.{descriptor_bytes}

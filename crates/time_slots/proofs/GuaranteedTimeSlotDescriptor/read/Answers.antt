@@ -1,6 +1,5 @@
 -- `time_slots::GuaranteedTimeSlotDescriptor::read` meets its contract: its test is the definition's.
 -- Assumes nothing.
-use borrow.Author.Rules.{rules}
 use Rattle.octets.proofs.Part.{fewer, enough}
 use Rattle.time_slots.specs.Descriptor.{read_descriptor}
 use Rattle.time_slots.proofs.GuaranteedTimeSlotDescriptor.read.Goals as goal

@@ -1,7 +1,6 @@
 -- `time_slots::GuaranteedTimeSlotDescriptor::write` meets its contract: the three ends of a writer, and `put` stores where there is room.
 -- Assumes nothing.
 use mathlib.Core.Path.{refl}
-use borrow.Author.Rules.{rules}
 use Rattle.octets.proofs.Value.{too_large, plain, no_room, stored}
 use Rattle.time_slots.specs.Descriptor.{write_descriptor}
 use Rattle.time_slots.proofs.GuaranteedTimeSlotDescriptor.write.Goals as goal

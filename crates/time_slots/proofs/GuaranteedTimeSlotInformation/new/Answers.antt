@@ -1,6 +1,5 @@
 -- `time_slots::GuaranteedTimeSlotInformation::new` meets its contract.
 -- Assumes nothing.
-use borrow.Author.Rules.{rules}
 use Rattle.time_slots.proofs.GuaranteedTimeSlotInformation.new.Goals as goal
 
 pub returns : goal.returns

@@ -2,7 +2,6 @@
 -- Assumes nothing.
 use native.Mathlib.Nat.{div-one}
 use native.Mathlib.Omega.{arith}
-use borrow.Author.Rules.{rules}
 use Rattle.octets.proofs.Part.{fewer, enough}
 use Rattle.time_slots.specs.TimeSlots.{time_slots_in, read_time_slots}
 use Rattle.time_slots.proofs.GuaranteedTimeSlotInformation.read.Goals as goal

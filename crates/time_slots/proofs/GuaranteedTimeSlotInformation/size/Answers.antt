@@ -1,7 +1,6 @@
 -- `time_slots::GuaranteedTimeSlotInformation::size` meets its contract: its test is the definition's.
 -- Assumes nothing.
 use native.Mathlib.Omega.{arith}
-use borrow.Author.Rules.{rules}
 use borrow.Author.Tests.{lt-ltb, le-ltb}
 use Rattle.time_slots.proofs.GuaranteedTimeSlotInformation.size.Goals as goal
 

@@ -1,6 +1,5 @@
 -- `time_slots::GuaranteedTimeSlotInformation::too_large` meets its contract: its tests are the definition's, in turn.
 -- Assumes nothing.
-use borrow.Author.Rules.{rules}
 use borrow.Author.Tests.{lt-ltb, le-ltb}
 use Rattle.time_slots.specs.TimeSlots.{time_slots_too_large}
 use Rattle.time_slots.proofs.GuaranteedTimeSlotInformation.too_large.Goals as goal

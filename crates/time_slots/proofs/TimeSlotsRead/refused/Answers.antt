@@ -1,6 +1,5 @@
 -- `time_slots::TimeSlotsRead::refused` meets its contract.
 -- Assumes nothing.
-use borrow.Author.Rules.{rules}
 use Rattle.time_slots.proofs.TimeSlotsRead.refused.Goals as goal
 
 pub returns : goal.returns
