@@ -1,5 +1,5 @@
-// The gateway's four entries for C. Each returns one number: the length, or 1000 plus the refusal number. They measure,
-// and copy what is rewritten with the listed bits cleared; no record is made.
+// The gateway's four entries, which `gateway_c` hands to C. Each returns one number: the length, or 1000 plus the refusal
+// number. They measure, and copy what is rewritten with the listed bits cleared; no record is made.
 #![tactic(auto)]
 
 ghost use Rattle.std.specs.Prelude.{◌≤◌, ◌≡◌, length};
@@ -28,8 +28,7 @@ fn code(outcome: Outcome) -> usize
 }
 
 // Reads the header at the beginning of a frame. The shortest frames are told at once.
-#[unsafe(no_mangle)]
-pub extern "C" fn knobtangle_read_header(frame: &[u8]) -> usize
+pub fn knobtangle_read_header(frame: &[u8]) -> usize
     ensures { result ≡ code_of (measured frame.now) }
 {
     if frame.len() < 3 {
@@ -39,8 +38,7 @@ pub extern "C" fn knobtangle_read_header(frame: &[u8]) -> usize
 }
 
 // Reads the beacon at the beginning of a beacon frame's content, which begins where its header ends.
-#[unsafe(no_mangle)]
-pub extern "C" fn knobtangle_read_beacon(content: &[u8]) -> usize
+pub fn knobtangle_read_beacon(content: &[u8]) -> usize
     ensures { result ≡ code_of (read_beacon content.now 0).outcome }
 {
     code(measure_beacon(content, 0))
@@ -85,8 +83,7 @@ fn put_header(frame: &[u8], n: usize, out: &mut [u8])
 
 // Rewrites a header: its bytes with the listed bits cleared, and what lay behind them in out; refused, out keeps every
 // byte.
-#[unsafe(no_mangle)]
-pub extern "C" fn knobtangle_rewrite_header(frame: &[u8], out: &mut [u8]) -> usize
+pub fn knobtangle_rewrite_header(frame: &[u8], out: &mut [u8]) -> usize
     ensures value { result ≡ code_of (rewrite_header frame.now (length out.old)) }
     ensures out_after { out.new ≡
         after (rewrite_header frame.now (length out.old))
@@ -112,8 +109,7 @@ fn put_beacon(content: &[u8], n: usize, out: &mut [u8])
 
 // Rewrites a beacon: its bytes with the listed bits cleared, and what lay behind them in out; refused, out keeps every
 // byte.
-#[unsafe(no_mangle)]
-pub extern "C" fn knobtangle_rewrite_beacon(content: &[u8], out: &mut [u8]) -> usize
+pub fn knobtangle_rewrite_beacon(content: &[u8], out: &mut [u8]) -> usize
     ensures value { result ≡ code_of (rewrite_beacon content.now (length out.old)) }
     ensures out_after { out.new ≡
         after (rewrite_beacon content.now (length out.old))
