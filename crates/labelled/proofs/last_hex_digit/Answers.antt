@@ -1,7 +1,6 @@
 -- `labelled::last_hex_digit` meets its contract.
 -- Assumes nothing.
 use native.Mathlib.Omega.{arith}
-use borrow.Author.Rules.{rules}
 use borrow.Author.Tests.{lt-ltb, le-ltb}
 use Rattle.labelled.proofs.last_hex_digit.Goals as goal
 

@@ -1,6 +1,5 @@
 -- `labelled::put_byte` meets its contract.
 -- Assumes nothing.
-use borrow.Author.Rules.{rules}
 use Rattle.labelled.proofs.Putting.{one, past}
 use Rattle.labelled.proofs.put_byte.Goals as goal
 

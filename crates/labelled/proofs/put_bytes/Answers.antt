@@ -1,13 +1,9 @@
 -- `labelled::put_bytes` meets its contract. The invariant: the digits of the bytes before the one at hand are stored.
 -- Assumes nothing.
-use Prim.Native.Nat.{◌-◌, ◌≤◌}
 use native.Mathlib.Omega.{arith}
 use mathlib.Core.List.{flat_map}
-use mathlib.Core.Path.{◌≡◌, refl, ◌∙◌}
+use mathlib.Core.Path.{refl, ◌∙◌}
 use borrow.Author.Rules.{rules}
-use lib.ListN.{length, take}
-use Rattle.labelled.specs.Hexed.{hex_by}
-use Rattle.labelled.specs.Put.{Put}
 use Rattle.labelled.proofs.Hexed.{pair_more, hexed_none, hexed_all}
 use Rattle.labelled.proofs.Putting.{none, join, same}
 use Rattle.labelled.proofs.put_bytes.Goals as goal

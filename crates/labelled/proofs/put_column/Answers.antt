@@ -1,6 +1,5 @@
 -- `labelled::put_column` meets its contract: two stores, one after the other.
 -- Assumes nothing.
-use borrow.Author.Rules.{rules}
 use Rattle.labelled.proofs.Putting.{join}
 use Rattle.labelled.proofs.put_column.Goals as goal
 

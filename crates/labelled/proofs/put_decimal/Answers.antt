@@ -1,13 +1,12 @@
 -- `labelled::put_decimal` meets its contract. The invariant: the digits of what is left, before those that are stored, are all digits.
 -- Assumes nothing.
-use Prim.Native.Nat.{◌-◌, ◌+◌, ◌^◌, ◌≤◌, ◌<◌}
+use Prim.Native.Nat.{◌-◌, ◌+◌, ◌≤◌, ◌<◌}
 use native.Mathlib.Omega.{arith}
-use mathlib.Core.List.{◌++◌, append-nil}
+use mathlib.Core.List.{append-nil}
 use mathlib.Core.Path.{◌≡◌, refl, ◌∙◌}
-use borrow.Author.Rules.{rules}
 use lib.ListN.{length, set, drop, length-set, length-drop}
 use lib.Seq.{take_all}
-use Rattle.labelled.specs.Decimal.{decimal_by, decimal}
+use Rattle.labelled.specs.Decimal.{decimal}
 use Rattle.labelled.proofs.Decimal.{digits_left, digit_more, digit_last, fewer_digits}
 use Rattle.labelled.proofs.Putting.{copied, same}
 use Rattle.labelled.proofs.put_decimal.Goals as goal

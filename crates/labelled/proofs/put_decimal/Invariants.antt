@@ -1,15 +1,10 @@
 -- `labelled::put_decimal` meets its contract. The invariant: the digits of what is left, before those that are stored, are all digits.
 -- Assumes nothing.
-use Prim.Native.Nat.{◌-◌, ◌+◌, ◌^◌, ◌≤◌, ◌<◌}
-use native.Mathlib.Omega.{arith}
-use mathlib.Core.List.{◌++◌, append-nil}
-use mathlib.Core.Path.{◌≡◌, refl, ◌∙◌}
-use borrow.Author.Rules.{rules}
-use lib.ListN.{length, set, drop, length-set, length-drop}
-use lib.Seq.{take_all}
+use Prim.Native.Nat.{◌^◌, ◌≤◌, ◌<◌}
+use mathlib.Core.List.{◌++◌}
+use mathlib.Core.Path.{◌≡◌}
+use lib.ListN.{length, drop}
 use Rattle.labelled.specs.Decimal.{decimal_by, decimal}
-use Rattle.labelled.proofs.Decimal.{digits_left, digit_more, digit_last, fewer_digits}
-use Rattle.labelled.proofs.Putting.{copied, same}
 use Rattle.labelled.proofs.put_decimal.Given as goal
 
 abbrev pub invariant-loop-rest : goal.invariant-loop-rest

@@ -3,7 +3,6 @@
 use Prim.Native.Nat.{ℕ, ◌/◌, ◌%◌}
 use mathlib.Core.List.{[], ◌∷◌}
 use mathlib.Core.Path.{ap, ◌∙◌}
-use borrow.Author.Rules.{rules}
 use Rattle.labelled.specs.Hexed.{hex_digit, hex_by}
 use Rattle.labelled.proofs.Putting.{join, same}
 use Rattle.labelled.proofs.put_pair.Goals as goal

@@ -2,7 +2,6 @@
 -- Assumes nothing.
 use Prim.Native.Nat.{◌≤◌, ◌<◌}
 use native.Mathlib.Omega.{arith}
-use borrow.Author.Rules.{rules}
 use lib.ListN.{length, drop, length-drop}
 use Rattle.line_cutter.specs.Line.{line_of}
 use Rattle.line_cutter.proofs.Line.{before_part, before_length, taken_none, taken_ended, taken_open}

@@ -1,11 +1,9 @@
 -- `line_cutter::find` meets its contract. The invariant: the wanted byte is as far from here as from the start.
 -- Assumes nothing.
-use Prim.Native.Nat.{◌+◌, ◌-◌}
 use native.Mathlib.Omega.{arith}
-use mathlib.Core.Path.{◌≡◌, refl, ap}
+use mathlib.Core.Path.{refl, ap}
 use borrow.Author.Rules.{rules}
-use lib.ListN.{length, drop}
-use Rattle.line_cutter.specs.Line.{before}
+use lib.ListN.{length}
 use Rattle.line_cutter.proofs.Line.{before_first, before_second, before_neither, before_end}
 use Rattle.line_cutter.proofs.find.Goals as goal
 

@@ -1,6 +1,5 @@
 -- `line_cutter::is_at` meets its contract.
 -- Assumes nothing.
-use borrow.Author.Rules.{rules}
 use borrow.Author.Tests.{lt-ltb, le-ltb}
 use Rattle.line_cutter.proofs.is_at.Goals as goal
 

@@ -1,13 +1,9 @@
 -- `lines::blank` meets its contract. The invariant: up to where the loop stands, what was there and zeros behind it.
 -- Assumes nothing.
-use Prim.Native.Nat.{ℕ, suc, ◌+◌, ◌-◌, ◌≤◌}
-use native.Mathlib.Numerals.{add-one}
-use native.Mathlib.Omega.{arith}
-use mathlib.Core.List.{List, [], ◌∷◌, ◌++◌, append_assoc, append-nil}
-use mathlib.Core.Path.{◌≡◌, refl, sym, ap, ◌∙◌}
-use borrow.Author.Rules.{rules}
-use lib.ListN.{length, set, take, replicate, length-set, replicate-append-replicate}
-use lib.Seq.{take_all, take-suc-set}
+use Prim.Native.Nat.{◌-◌, ◌≤◌}
+use mathlib.Core.List.{◌++◌}
+use mathlib.Core.Path.{◌≡◌}
+use lib.ListN.{length, take, replicate}
 use Rattle.lines.proofs.blank.Given as goal
 
 abbrev pub invariant-loop-i : goal.invariant-loop-i

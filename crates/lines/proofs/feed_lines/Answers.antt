@@ -1,12 +1,9 @@
 -- `lines::feed_lines` meets its contract. The invariant: what is left of the chunk leads from here to where the whole chunk leads.
 -- Assumes nothing.
-use Prim.Native.Nat.{ℕ, ◌+◌, ◌-◌, ◌*◌, ◌≤◌}
+use Prim.Native.Nat.{ℕ, ◌≤◌}
 use native.Mathlib.Omega.{arith}
-use mathlib.Core.Path.{◌≡◌, refl, ◌∙◌}
-use borrow.Author.Rules.{rules}
-use lib.ListN.{length, take, drop, length-replicate}
-use Rattle.line_cutter.specs.Answers.{fed_to}
-use Rattle.line_cutter.specs.Line.{kept_most}
+use mathlib.Core.Path.{refl, ◌∙◌}
+use lib.ListN.{length, length-replicate}
 use Rattle.line_cutter.proofs.Answers.{fed_all}
 use Rattle.lines.specs.Answer.{answer}
 use Rattle.lines.proofs.feed_lines.Goals as goal
@@ -29,16 +26,15 @@ pub loop-at-smaller : goal.loop-at-smaller
 loop-at-smaller c = omega (arith, c.put_next-next.ensures.onward.later, c.put_next-next.ensures.onward.within)
 
 pub loop-at-preserved : goal.loop-at-preserved
-loop-at-preserved c =
-    (
-      c.put_next-next.ensures.onward.within,
-      c.put_next-next.ensures.onward.small,
-      c.put_next-next.auto.line ∙ c.loop-at.invariant.2,
-      c.put_next-next.auto.out ∙ c.loop-at.invariant.3,
-      c.put_next-next.auto.frame ∙ c.loop-at.invariant.4,
-      omega (arith, c.put_next-next.ensures.at_bound, c.loop-at.invariant.5),
-      c.put_next-next.ensures.used_after ∙ c.loop-at.invariant.6,
-    )
+loop-at-preserved c = (
+  c.put_next-next.ensures.onward.within,
+  c.put_next-next.ensures.onward.small,
+  c.put_next-next.auto.line ∙ c.loop-at.invariant.2,
+  c.put_next-next.auto.out ∙ c.loop-at.invariant.3,
+  c.put_next-next.auto.frame ∙ c.loop-at.invariant.4,
+  omega (arith, c.put_next-next.ensures.at_bound, c.loop-at.invariant.5),
+  c.put_next-next.ensures.used_after ∙ c.loop-at.invariant.6,
+)
 
 pub returns : goal.returns
 returns c =

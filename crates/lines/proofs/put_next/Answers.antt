@@ -2,7 +2,6 @@
 -- Assumes nothing.
 use native.Mathlib.Omega.{arith}
 use mathlib.Core.Path.{◌≡◌, ◌∙◌}
-use borrow.Author.Rules.{rules}
 use Rattle.line_cutter.proofs.Answers.{fed_empty, fed_still}
 use Rattle.lines.specs.Answer.{answer}
 use Rattle.lines.proofs.put_next.Goals as goal

@@ -1,6 +1,6 @@
 -- `senders::hear` meets its contract: it goes one of the ways that the definition has.
 -- Assumes nothing.
-use Rattle.std.proofs.Common.{◌≡◌, ◌≤◌, true, length, sym, ap, ◌∙◌, arith, rules}
+use Rattle.std.proofs.Common.{◌≡◌, ◌≤◌, true, length, sym, ap, ◌∙◌, arith}
 use borrow.Author.Tests.{not-true, not-false}
 use Rattle.senders.specs.declared.Counted.{Counted}
 use Rattle.senders.specs.Hearing.{senders_most}

@@ -1,6 +1,6 @@
 -- `senders::is_row_of` meets its contract: where a number differs, the senders do.
 -- Assumes nothing.
-use Rattle.std.proofs.Common.{rules, eq-eqb, ne_eqb}
+use Rattle.std.proofs.Common.{eq-eqb, ne_eqb}
 use Rattle.senders.specs.Table.{counted_at}
 use Rattle.senders.proofs.Rows.{same_octets}
 use Rattle.senders.proofs.is_row_of.Goals as goal

@@ -1,6 +1,6 @@
 -- `senders::missing_by` meets its contract.
 -- Assumes nothing.
-use Rattle.std.proofs.Common.{arith, rules, le-ltb, lt-ltb}
+use Rattle.std.proofs.Common.{arith, le-ltb, lt-ltb}
 use Rattle.senders.proofs.missing_by.Goals as goal
 
 pub returns-then-step-lt2 : goal.returns-then-step-lt2

@@ -1,6 +1,6 @@
 -- `senders::put_row` meets its contract: the table keeps its length with each number that is written.
 -- Assumes nothing.
-use Rattle.std.proofs.Common.{refl, arith, length-set, rules}
+use Rattle.std.proofs.Common.{refl, arith, length-set}
 use Rattle.senders.specs.Table.{row_set}
 use Rattle.senders.proofs.put_row.Goals as goal
 

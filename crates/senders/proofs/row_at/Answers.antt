@@ -1,6 +1,6 @@
 -- `senders::row_at` meets its contract: a row is in its table, or there is none.
 -- Assumes nothing.
-use Rattle.std.proofs.Common.{◌≡◌, ℕ, ◌+◌, ◌≤◌, true, false, leb, List, sym, ◌∙◌, arith, rules}
+use Rattle.std.proofs.Common.{◌≡◌, ℕ, ◌+◌, ◌≤◌, true, false, leb, List, sym, ◌∙◌, arith}
 use mathlib.Core.Bool.{and-false}
 use borrow.Author.Tests.{not-true, not-false, lt-leb}
 use Rattle.senders.specs.Hearing.{senders_most, no_one}

@@ -1,6 +1,6 @@
 -- `senders::row_in` meets its contract.
 -- Assumes nothing.
-use Rattle.std.proofs.Common.{refl, rules}
+use Rattle.std.proofs.Common.{refl}
 use Rattle.senders.specs.Table.{counted_at}
 use Rattle.senders.proofs.row_in.Goals as goal
 

@@ -1,7 +1,7 @@
 -- `senders::row_of` meets its contract. The invariant: the sender is in none of the rows that were looked at.
 -- Assumes nothing.
-use Rattle.std.proofs.Common.{◌≡◌, ◌-◌, ◌≤◌, sym, refl, ◌∙◌, arith, rules}
-use Rattle.senders.specs.Table.{counted_in, row_of}
+use Rattle.std.proofs.Common.{◌≡◌, sym, refl, ◌∙◌, arith}
+use Rattle.senders.specs.Table.{counted_in}
 use Rattle.senders.specs.Hearing.{place_of}
 use Rattle.senders.proofs.Rows.{row_not, row_found}
 use Rattle.senders.proofs.row_of.Goals as goal

@@ -2,7 +2,6 @@
 -- Assumes nothing.
 use native.Mathlib.Omega.{arith}
 use mathlib.Core.Path.{◌∙◌}
-use borrow.Author.Rules.{rules}
 use lib.ListN.{length-set}
 use Rattle.lines.specs.Answer.{columns}
 use Rattle.octets.proofs.Stored.{three, join}

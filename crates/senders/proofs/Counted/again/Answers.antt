@@ -1,6 +1,5 @@
 -- `senders::Counted::again` meets its contract.
 -- Assumes nothing.
-use Rattle.std.proofs.Common.{rules}
 use Rattle.senders.specs.Hearing.{heard_again}
 use Rattle.senders.proofs.Counted.again.Goals as goal
 
