@@ -4,28 +4,32 @@
 use native.Mathlib.Omega.{arith}
 use mathlib.Core.Path.{◌≡◌, refl, sym, ap, ◌∙◌}
 use borrow.Author.Tests.{eq-eqb, ne_eqb}
-use borrow.Author.Rules.{rules}
 use Rattle.payload.specs.declared.FrameRead.{FrameRead}
 use Rattle.payload.proofs.Within.{frame_within, refused_length, tail, nothing}
 use Rattle.payload.proofs.payload.Goals as goal
 
-pub slice_bounds-result-start : goal.slice_bounds-result-start
-slice_bounds-result-start c =
-    let zero = ap (λ (r : FrameRead). r.outcome-1.number) (sym c.read-view.ensures) ∙ c.if-outcome-eq0.true in
+pub slice_bounds-result-count : goal.slice_bounds-result-count
+slice_bounds-result-count c =
+    let zero = ap (λ (r : FrameRead). r.outcome.number) (sym c.read-view.ensures) ∙ c.if-outcome-eq0.true in
     rw c.read-view.ensures (frame_within c.args.frame.now zero)
 
 pub returns-then-outcome-eq0 : goal.returns-then-outcome-eq0
 returns-then-outcome-eq0 c =
     record {
-      result_value = rw (← c.read-view.ensures) ((simp (eq-eqb _ 0 c.if-outcome-eq0.true, tail), ((refl, omega arith), refl)).0);
-      begins = rw (← c.read-view.ensures) ((simp (eq-eqb _ 0 c.if-outcome-eq0.true, tail), ((refl, omega arith), refl)).1.0);
-      number_after = rw (← c.read-view.ensures) ((simp (eq-eqb _ 0 c.if-outcome-eq0.true, tail), ((refl, omega arith), refl)).1.1);
+      result_value = rw (← c.read-view.ensures) (simp (eq-eqb _ 0 c.if-outcome-eq0.true, tail));
+      begins = rw (← c.read-view.ensures) (refl, omega arith);
+      number_after = rw (← c.read-view.ensures) refl;
     }
 
 pub returns-else-outcome-eq0 : goal.returns-else-outcome-eq0
 returns-else-outcome-eq0 c =
     let none : c.read-view.result.outcome.length ≡ 0 = rw c.read-view.ensures (refused_length _ (rw (← c.read-view.ensures) c.if-outcome-eq0.false)) in record {
-      result_value = rw (← c.read-view.ensures) ((simp (ne_eqb _ 0 c.if-outcome-eq0.false, nothing), ((refl, omega (arith, none)), refl)).0);
-      begins = rw (← c.read-view.ensures) ((simp (ne_eqb _ 0 c.if-outcome-eq0.false, nothing), ((refl, omega (arith, none)), refl)).1.0);
-      number_after = rw (← c.read-view.ensures) ((simp (ne_eqb _ 0 c.if-outcome-eq0.false, nothing), ((refl, omega (arith, none)), refl)).1.1);
+      result_value = rw (← c.read-view.ensures) (simp (ne_eqb _ 0 c.if-outcome-eq0.false, nothing));
+      begins = rw (← c.read-view.ensures) (refl, omega (arith, none));
+      number_after = rw (← c.read-view.ensures) refl;
     }
+
+pub slice_bounds-result-start : goal.slice_bounds-result-start
+slice_bounds-result-start c =
+    let zero = ap (λ (r : FrameRead). r.outcome.number) (sym c.read-view.ensures) ∙ c.if-outcome-eq0.true in
+    rw c.read-view.ensures (frame_within c.args.frame.now zero)

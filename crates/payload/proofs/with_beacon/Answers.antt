@@ -11,8 +11,8 @@ use Rattle.payload.proofs.with_beacon.Goals as goal
 pub overflow_add-at : goal.overflow_add-at
 overflow_add-at c =
     let a = c.args in
-    let zero = ap (λ (r : BeaconRead). r.outcome-1.number) (sym c.read-read.ensures) ∙ c.if-outcome-eq0.true in
-    omega (arith, beacon_within a.frame.now a.at zero, ap (λ (r : BeaconRead). r.outcome-1.length) c.read-read.ensures)
+    let zero = ap (λ (r : BeaconRead). r.outcome.number) (sym c.read-read.ensures) ∙ c.if-outcome-eq0.true in
+    omega (arith, beacon_within a.frame.now a.at zero, ap (λ (r : BeaconRead). r.outcome.length) c.read-read.ensures)
 
 pub returns-then-outcome-eq0 : goal.returns-then-outcome-eq0
 returns-then-outcome-eq0 c = rw (← c.read-read.ensures) (simp (c.accepted.ensures, eq-eqb _ 0 c.if-outcome-eq0.true))
