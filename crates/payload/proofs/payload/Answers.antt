@@ -24,7 +24,7 @@ returns-then-outcome-eq0 c =
 
 pub returns-else-outcome-eq0 : goal.returns-else-outcome-eq0
 returns-else-outcome-eq0 c =
-    let none : c.read-view.result.outcome-1.length ≡ 0 = rw c.read-view.ensures (refused_length _ (rw (← c.read-view.ensures) c.if-outcome-eq0.false)) in record {
+    let none : c.read-view.result.outcome.length ≡ 0 = rw c.read-view.ensures (refused_length _ (rw (← c.read-view.ensures) c.if-outcome-eq0.false)) in record {
       result_value = rw (← c.read-view.ensures) ((simp (ne_eqb _ 0 c.if-outcome-eq0.false, nothing), ((refl, omega (arith, none)), refl)).0);
       begins = rw (← c.read-view.ensures) ((simp (ne_eqb _ 0 c.if-outcome-eq0.false, nothing), ((refl, omega (arith, none)), refl)).1.0);
       number_after = rw (← c.read-view.ensures) ((simp (ne_eqb _ 0 c.if-outcome-eq0.false, nothing), ((refl, omega (arith, none)), refl)).1.1);

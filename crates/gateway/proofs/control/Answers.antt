@@ -7,8 +7,7 @@ use borrow.Author.Rules.{rules}
 use lib.ListN.{take}
 use lib.Seq.{length-take-le}
 use Rattle.octets.specs.Little.{number}
-use Rattle.gateway.proofs.control.Statement.{statement}
-use Rattle.gateway.proofs.control.Tie as tie
+use Rattle.gateway.proofs.control.Goals as goal
 
 number_front : (s : List ℕ) → number (take 2 s) 0 2 ≡ number s 0 2
 unfolding number
@@ -16,11 +15,8 @@ number_front [] = refl
 number_front (a ∷ []) = refl
 number_front (a ∷ b ∷ s) = refl
 
-there : tie.Need-slice-aggregate-u16-at
-there c = let start = c.before.before in sym (length-take-le 2 start.args.frame.now start.requires)
+pub slice_bounds-u16_at-end : goal.slice_bounds-u16_at-end
+slice_bounds-u16_at-end c = sym (length-take-le 2 c.args.frame.now c.requires)
 
-returns : tie.Need-returns
-returns c = c.u16-at.ensures ∙ number_front _
-
-pub control_spec : {M : Type 1} → statement M
-control_spec = tie.close (tie.spec there (λ c κs. search rules) (λ c. search rules) returns)
+pub returns : goal.returns
+returns c = c.u16_at.ensures ∙ number_front _
