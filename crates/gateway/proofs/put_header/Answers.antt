@@ -48,3 +48,9 @@ returns c =
     ∙ ap (cleared_by (number a.frame.now 0 2))
     (copied_front a.frame.now a.out.now a.n (read).within q.fits)
     ∙ cleared_copy a.frame.now a.out.now a.n q.read q.fits
+
+pub slice_bounds-copy-end : goal.slice_bounds-copy-end
+slice_bounds-copy-end c =
+    let a = c.args in
+    let asked = rewrite_accepted a.frame.now (length a.out.now) a.n c.requires in
+    sym (length-take-le _ _ (read_accepted a.frame.now a.n asked.read).within)
