@@ -28,15 +28,14 @@ pub loop-at-smaller : goal.loop-at-smaller
 loop-at-smaller c = omega (arith, c.put_line-next.ensures.onward.later, c.put_line-next.ensures.onward.within)
 
 pub loop-at-preserved : goal.loop-at-preserved
-loop-at-preserved c =
-    (
-      c.put_line-next.ensures.onward.within,
-      c.put_line-next.ensures.onward.small,
-      c.put_line-next.auto.line ∙ c.loop-at.invariant.2,
-      c.put_line-next.auto.out ∙ c.loop-at.invariant.3,
-      omega (arith, c.put_line-next.ensures.at_bound, c.loop-at.invariant.4),
-      c.put_line-next.ensures.used_after ∙ c.loop-at.invariant.5,
-    )
+loop-at-preserved c = (
+  c.put_line-next.ensures.onward.within,
+  c.put_line-next.ensures.onward.small,
+  c.put_line-next.auto.line ∙ c.loop-at.invariant.2,
+  c.put_line-next.auto.out ∙ c.loop-at.invariant.3,
+  omega (arith, c.put_line-next.ensures.at_bound, c.loop-at.invariant.4),
+  c.put_line-next.ensures.used_after ∙ c.loop-at.invariant.5,
+)
 
 pub returns : goal.returns
 returns c =

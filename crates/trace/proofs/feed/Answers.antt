@@ -54,18 +54,17 @@ loop-at-preserved-then-found c =
 
 -- none has
 pub loop-at-preserved : goal.loop-at-preserved
-loop-at-preserved c =
-    (
-      c.find_next-found.ensures.onward.within,
-      c.find_next-found.ensures.onward.small,
-      c.find_next-found.auto.line ∙ c.loop-at.invariant.2,
-      c.loop-at.invariant.3,
-      c.find_next-found.auto.frame ∙ c.loop-at.invariant.4,
-      c.loop-at.invariant.5,
-      c.loop-at.invariant.6,
-      omega (arith, c.loop-at.invariant.7, c.find_next-found.ensures.onward.later, c.find_next-found.ensures.onward.within),
-      c.find_next-found.ensures.goes c.if-found.false (trace_of c.loop-at.counts c.loop-at.table) c.loop-at.out c.loop-at.used ∙ c.loop-at.invariant.8,
-    )
+loop-at-preserved c = (
+  c.find_next-found.ensures.onward.within,
+  c.find_next-found.ensures.onward.small,
+  c.find_next-found.auto.line ∙ c.loop-at.invariant.2,
+  c.loop-at.invariant.3,
+  c.find_next-found.auto.frame ∙ c.loop-at.invariant.4,
+  c.loop-at.invariant.5,
+  c.loop-at.invariant.6,
+  omega (arith, c.loop-at.invariant.7, c.find_next-found.ensures.onward.later, c.find_next-found.ensures.onward.within),
+  c.find_next-found.ensures.goes c.if-found.false (trace_of c.loop-at.counts c.loop-at.table) c.loop-at.out c.loop-at.used ∙ c.loop-at.invariant.8,
+)
 
 pub returns : goal.returns
 returns c =

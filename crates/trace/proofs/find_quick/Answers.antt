@@ -31,10 +31,10 @@ returns c =
       spoken = c.say-said.ensures.spoken;
       ends = (λ e. lies a.chunk.now a.at c.part_at-parts.result _ c.say-said.result k c.say-said.ensures.value);
       onward = (λ e. record {
-            small = omega arith;
-            later = omega (arith, k.begins);
-            within = omega (arith, (there a.chunk.now c.part_at-parts.result.end 10 (feed_there)).0);
-          });
+        small = omega arith;
+        later = omega (arith, k.begins);
+        within = omega (arith, (there a.chunk.now c.part_at-parts.result.end 10 (feed_there)).0);
+      });
       n_value = refl;
     }
 

@@ -56,8 +56,7 @@ loop-count-preserved c =
     ap (λ (i : ℕ). gathered r (get_or c.args.piece.now c.loop-count.at 0 ∷ drop i c.args.piece.now)) (add-one c.loop-count.at)
     ∙ ap (gathered r) (sym (drop-cons c.args.piece.now c.loop-count.at 0 (inside)))
     ∙ sym (onward_wants r (drop c.loop-count.at c.args.piece.now) c.loop-count-test.true)
-    ∙ c.loop-count.invariant.4 in
-    (
+    ∙ c.loop-count.invariant.4 in (
       simp length-set c.loop-count.invariant.0,
       omega (arith, c.loop-count-test.true, c.loop-count.invariant.2),
       c.loop-count.invariant.2,
