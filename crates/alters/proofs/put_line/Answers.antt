@@ -19,13 +19,13 @@ returns-then-taken c =
     let line : (let a = c.args in Cut a.chunk.now a.at a.line.now a.n c.cut-taken.result c.cut-taken.new.line) = cutting _ _ _ _ _ _ (c.cut-taken.ensures.value, c.cut-taken.ensures.line_after) c.requires.n_le_kept_most c.requires.line_len c.requires.at_in_bounds in
     let within : c.cut-taken.result.n ≤ length c.cut-taken.new.line = omega (arith, (line).small, c.cut-taken.auto.line, c.requires.line_len) in
     let whole : length (take c.cut-taken.result.n c.cut-taken.new.line) ≡ c.cut-taken.result.n = length-take-le _ _ (within) in
-    let stored : (let a = c.args in Stored a.out.now a.used (answer (take c.cut-taken.result.n c.cut-taken.last.1.1.0)) c.put_answer-next.new.out c.put_answer-next.result) =
+    let stored : (let a = c.args in Stored a.out.now a.used (answer (take c.cut-taken.result.n c.cut-taken.new.line)) c.put_answer-next.new.out c.put_answer-next.result) =
     let u = (line).used c.if-taken.true in
-    let m = answer_most_lem (take c.cut-taken.result.n c.cut-taken.last.1.1.0) in
-    roomy (omega (arith, m, whole, u.0, u.1, c.pre.1.1.0, c.pre.1.1.1.0)) c.put_answer-next.ensures in
+    let m = answer_most_lem (take c.cut-taken.result.n c.cut-taken.new.line) in
+    roomy (omega (arith, m, whole, u.0, u.1, c.requires.at_in_bounds, c.requires.at_in_bounds_2)) c.put_answer-next.ensures in
     let a = c.args in
     let u = (line).used c.if-taken.true in
-    let m = answer_most_lem (take c.cut-taken.result.n c.cut-taken.last.1.1.0) in
+    let m = answer_most_lem (take c.cut-taken.result.n c.cut-taken.new.line) in
     let r = (line).answered c.if-taken.true answer (answer_front said) a.out.now _ a.used c.put_answer-next.result (stored) in record {
       used_after = r.0;
       onward = r.1;

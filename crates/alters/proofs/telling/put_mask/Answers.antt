@@ -12,6 +12,7 @@ use Rattle.alters.specs.Bits.{bits_below}
 use Rattle.alters.specs.Steps.{marked, next_mark}
 use Rattle.alters.proofs.Marks.{told_set, told_clear}
 use Rattle.alters.proofs.telling.put_mask.Goals as goal
+use Rattle.alters.proofs.telling.put_mask.Goals.{then-mask-bit-eq1, else-mask-bit-eq1}
 
 pub loop-bit-init : goal.loop-bit-init
 unfolding bits_below marked
@@ -19,17 +20,16 @@ loop-bit-init c = (omega arith, refl, none _ _, refl)
 
 pub loop-bit-preserved : goal.loop-bit-preserved
 loop-bit-preserved c =
-    let turned : (let a = c.args in (length c.if-mask-bit-eq1.out ≡ length c.loop-bit.out) × (Put a.out.now a.at (marked a.mark (bits_below a.place a.mask (c.loop-bit.bit + 1))) c.if-mask-bit-eq1.out c.if-mask-bit-eq1.next × (c.if-mask-bit-eq1 ≡ next_mark a.mark (bits_below a.place a.mask (c.loop-bit.bit + 1))))) =
     let a = c.args in
-    cases c.if-mask-bit-eq1.branch
-    (λ w.
-    let s = told_set a.mark c.loop-bit a.place a.mask c.loop-bit.bit c.loop-bit.invariant.3 c.loop-bit.invariant.2 w.0.taken w.2.ensures in
-    rw (w.5, w.6, w.7) (w.2.kept.1.1.1.0, s))
-    (λ w.
-    let s = told_clear a.mark c.loop-bit a.place a.mask c.loop-bit.bit c.loop-bit.invariant.3 c.loop-bit.invariant.2 w.0.left in
-    rw (w.1, w.2, w.3) (refl, s)) in
-    let t = turned in
-    (search rules, t.0 ∙ c.loop-bit.invariant.1, t.1.0, t.1.1)
+    let l = c.loop-bit in
+    elim c.if-mask-bit-eq1.branch [
+      then-mask-bit-eq1 w ↦
+        let s = told_set a.mark l.before a.place a.mask l.bit l.invariant.3 l.invariant.2 w.if-mask-bit-eq1.true w.put_bit-next.ensures in
+        rw (w.out-is, w.before-is, w.next-is) (omega arith, w.put_bit-next.auto.out ∙ l.invariant.1, s.0, s.1)
+    | else-mask-bit-eq1 w ↦
+        let s = told_clear a.mark l.before a.place a.mask l.bit l.invariant.3 l.invariant.2 w.if-mask-bit-eq1.false in
+        rw (w.out-is, w.before-is, w.next-is) (omega arith, l.invariant.1, s.0, s.1)
+    ]
 
 pub returns : goal.returns
 returns c =
