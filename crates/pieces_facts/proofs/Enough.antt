@@ -11,7 +11,7 @@ use borrow.Author.Tests.{ltb-true, ltb-false, leb-true, eqb-false, lt-ltb, le-lt
 use lib.Dec.{ltb, leb, eqb}
 use lib.ListN.{length, take, drop, replicate, length-append, length-take, take-append-drop}
 use lib.Seq.{length-take-le}
-use Rattle.octets.specs.{Bits.bit, Little.number, Outcome.accepted, Outcome.refused}
+use Rattle.octets.specs.{Bits.bit, Little.number}
 use Rattle.octets.proofs.Cases.{cases, holds?, both}
 use Rattle.octets.proofs.Little.{number_more}
 use Rattle.header_bytes.specs.Layout.{source_end, header_end}

@@ -1,7 +1,6 @@
 -- `alterations::leaves_alone` meets its contract: by the answer and the count.
 -- Assumes nothing.
 use mathlib.Core.Path.{sym, ap, ◌∙◌}
-use borrow.Author.Rules.{rules}
 use borrow.Author.Tests.{eq-eqb, ne_eqb}
 use Rattle.alterations.specs.declared.Alterations.{Alterations}
 use Rattle.alterations.specs.Altered.{alterations}

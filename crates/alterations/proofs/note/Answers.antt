@@ -1,7 +1,6 @@
 -- `alterations::note` meets its contract: nothing is noted of a mask that is 0.
 -- Assumes nothing.
 use native.Mathlib.Omega.{arith}
-use borrow.Author.Rules.{rules}
 use borrow.Author.Tests.{eq-eqb, ne_eqb}
 use Rattle.alterations.proofs.Notes.{noted_none, noted_one, noted_as}
 use Rattle.alterations.proofs.note.Goals as goal

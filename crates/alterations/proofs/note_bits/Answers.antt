@@ -1,7 +1,6 @@
 -- `alterations::note_bits` meets its contract: what is held of the byte is noted.
 -- Assumes nothing.
 use mathlib.Core.Path.{ap, ◌∙◌}
-use borrow.Author.Rules.{rules}
 use Rattle.octets.proofs.Little.{number_one}
 use Rattle.alterations.specs.Altered.{mask, span, altered_at}
 use Rattle.alterations.proofs.Notes.{noted_as}

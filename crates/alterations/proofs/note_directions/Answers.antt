@@ -2,7 +2,6 @@
 -- Assumes nothing.
 use native.Mathlib.Omega.{arith}
 use mathlib.Core.Path.{sym, ap}
-use borrow.Author.Rules.{rules}
 use Rattle.alterations.specs.Altered.{altered_in}
 use Rattle.alterations.proofs.Lists.{directions_some, directions_none}
 use Rattle.alterations.proofs.Notes.{noted_none, noted_on, noted_as}

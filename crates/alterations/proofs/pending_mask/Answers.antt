@@ -1,7 +1,6 @@
 -- `alterations::pending_mask` meets its contract: each of the two bits where it stands.
 -- Assumes nothing.
 use native.Mathlib.Omega.{arith}
-use borrow.Author.Rules.{rules}
 use Rattle.alterations.proofs.Masks.{pending_held}
 use Rattle.alterations.proofs.pending_mask.Goals as goal
 

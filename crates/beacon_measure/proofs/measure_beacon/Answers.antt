@@ -2,7 +2,6 @@
 -- Assumes nothing.
 use mathlib.Core.Path.{◌∙◌}
 use native.Mathlib.Omega.{arith}
-use borrow.Author.Rules.{rules}
 use Rattle.beacon_measure.proofs.BeaconLength.{ended, all_there, beacon_least, beacon_parts}
 use Rattle.beacon_measure.proofs.measure_beacon.Goals as goal
 

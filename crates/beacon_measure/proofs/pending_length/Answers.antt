@@ -2,7 +2,6 @@
 -- Assumes nothing.
 use native.Mathlib.Nat.{div-one}
 use native.Mathlib.Omega.{arith}
-use borrow.Author.Rules.{rules}
 use Rattle.beacon_measure.proofs.pending_length.Goals as goal
 
 pub returns : goal.returns

@@ -1,7 +1,6 @@
 -- `gateway::code` meets its contract: by the number.
 -- Assumes nothing.
 use borrow.Author.Tests.{eq-eqb, ne_eqb}
-use borrow.Author.Rules.{rules}
 use Rattle.gateway.proofs.code.Goals as goal
 
 pub returns-then-outcome-eq0 : goal.returns-then-outcome-eq0

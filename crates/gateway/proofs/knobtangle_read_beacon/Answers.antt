@@ -1,7 +1,6 @@
 -- `gateway::knobtangle_read_beacon` meets its contract: it is the code of what measuring tells.
 -- Assumes nothing.
 use mathlib.Core.Path.{ap, ◌∙◌}
-use borrow.Author.Rules.{rules}
 use Rattle.gateway.specs.Code.{code_of}
 use Rattle.gateway.proofs.knobtangle_read_beacon.Goals as goal
 

@@ -2,7 +2,6 @@
 -- Assumes nothing.
 use mathlib.Core.Path.{refl, sym, ap, ◌∙◌}
 use native.Mathlib.Omega.{arith}
-use borrow.Author.Rules.{rules}
 use lib.ListN.{length}
 use Rattle.gateway.specs.Code.{code_of}
 use Rattle.gateway.proofs.BeaconRewriting.{beacon_refused_lem, beacon_full, beacon_fits}

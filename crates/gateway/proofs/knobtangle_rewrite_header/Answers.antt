@@ -1,7 +1,6 @@
 -- `gateway::knobtangle_rewrite_header` meets its contract: what rewriting answers, and the header copied where it accepts.
 -- Assumes nothing.
 use mathlib.Core.Path.{sym, ap, ◌∙◌}
-use borrow.Author.Rules.{rules}
 use Rattle.octets.proofs.Accepted.{accepted_of}
 use Rattle.gateway.specs.Code.{code_of}
 use Rattle.gateway.proofs.Output.{kept, stored}

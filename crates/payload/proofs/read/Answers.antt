@@ -1,7 +1,6 @@
 -- `payload::read` meets its contract: by what reading the header answers, and by whether the beacon is to be read.
 -- Assumes nothing.
 use mathlib.Core.Path.{sym, ◌∙◌}
-use borrow.Author.Rules.{rules}
 use Rattle.header.proofs.Bounds.{length_bounds}
 use Rattle.payload.specs.Frame.{read_frame}
 use Rattle.payload.proofs.read.Goals as goal

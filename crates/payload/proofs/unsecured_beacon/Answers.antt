@@ -1,7 +1,6 @@
 -- `payload::unsecured_beacon` meets its contract: by the security part and the type's bits.
 -- Assumes nothing.
 use mathlib.Core.Path.{sym, ◌∙◌}
-use borrow.Author.Rules.{rules}
 use Rattle.payload.proofs.unsecured_beacon.Goals as goal
 
 pub returns : goal.returns

@@ -1,6 +1,5 @@
 -- `payload::without_beacon` meets its contract: the beacon is the empty one.
 -- Assumes nothing.
-use borrow.Author.Rules.{rules}
 use Rattle.payload.proofs.without_beacon.Goals as goal
 
 pub returns : goal.returns

@@ -1,7 +1,6 @@
 -- `pieces::control_unseen` meets its contract: by the security bit.
 -- Assumes nothing.
 use mathlib.Core.Path.{ap}
-use borrow.Author.Rules.{rules}
 use borrow.Author.Tests.{eq-eqb, ne_eqb}
 use lib.Dec.{leb}
 use Rattle.pieces.proofs.control_unseen.Goals as goal

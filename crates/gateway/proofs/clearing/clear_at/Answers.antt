@@ -1,7 +1,6 @@
 -- `gateway::clearing::clear_at` meets its contract: the byte at the place is stored cleared.
 -- Assumes nothing.
 use mathlib.Core.Path.{ap}
-use borrow.Author.Rules.{rules}
 use lib.ListN.{set}
 use Rattle.gateway.proofs.clearing.clear_at.Goals as goal
 

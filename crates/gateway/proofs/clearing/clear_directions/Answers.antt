@@ -1,7 +1,6 @@
 -- `gateway::clearing::clear_directions` meets its contract: by whether there are slots.
 -- Assumes nothing.
 use mathlib.Core.Path.{◌∙◌}
-use borrow.Author.Rules.{rules}
 use Rattle.gateway.proofs.Directions.{directions_some, directions_none}
 use Rattle.gateway.proofs.clearing.clear_directions.Goals as goal
 

@@ -1,7 +1,6 @@
 -- `gateway::clearing::clear_pending` meets its contract: the second clearing finds what the first left.
 -- Assumes nothing.
 use mathlib.Core.Path.{ap, ◌∙◌}
-use borrow.Author.Rules.{rules}
 use Rattle.octets.specs.Bits.{clear_at}
 use Rattle.gateway.proofs.clearing.clear_pending.Goals as goal
 

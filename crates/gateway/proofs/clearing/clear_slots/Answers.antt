@@ -3,7 +3,6 @@
 use mathlib.Core.List.{List}
 use mathlib.Core.Path.{ap, ◌∙◌}
 use Prim.Native.Nat.{ℕ}
-use borrow.Author.Rules.{rules}
 use Rattle.octets.specs.Bits.{clear_at}
 use Rattle.beacon_facts.specs.Cleared.{clear_directions}
 use Rattle.gateway.proofs.clearing.clear_slots.Goals as goal

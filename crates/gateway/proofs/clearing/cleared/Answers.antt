@@ -1,7 +1,6 @@
 -- `gateway::clearing::cleared` meets its contract: a shifted one is a power of two, and the bits are a part of the byte.
 -- Assumes nothing.
 use native.Mathlib.Omega.{arith}
-use borrow.Author.Rules.{rules}
 use Rattle.octets.proofs.Bits.{shifted_one, shifted_some, shifted_part}
 use Rattle.gateway.proofs.clearing.cleared.Goals as goal
 

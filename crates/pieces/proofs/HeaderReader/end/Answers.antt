@@ -1,7 +1,6 @@
 -- `pieces::HeaderReader::end` meets its contract: by whether it waits.
 -- Assumes nothing.
 use mathlib.Core.Path.{sym, ◌∙◌}
-use borrow.Author.Rules.{rules}
 use borrow.Author.Tests.{not-true, not-false}
 use Rattle.pieces.specs.Reader.{ended}
 use Rattle.pieces.proofs.HeaderReader.end.Goals as goal

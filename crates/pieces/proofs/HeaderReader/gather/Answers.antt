@@ -1,7 +1,7 @@
 -- `pieces::HeaderReader::gather` meets its contract. The invariant: what the rest of the piece leads to, from where the loop stands, is
 -- what the whole piece leads to.
 -- Assumes nothing.
-use Prim.Native.Nat.{ℕ, ◌+◌, ◌-◌, ◌≤◌, ◌<◌}
+use Prim.Native.Nat.{ℕ, ◌+◌, ◌<◌}
 use native.Mathlib.Numerals.{add-one}
 use native.Mathlib.Omega.{arith}
 use mathlib.Core.List.{◌∷◌}
@@ -11,7 +11,7 @@ use borrow.Author.Tests.{ltb-true, ltb-false}
 use lib.ListN.{length, drop, get_or, set, length-set, drop_of_length-le}
 use lib.Seq.{drop-cons}
 use Rattle.pieces.specs.Steps.{gathered}
-use Rattle.pieces.proofs.Growing.{mapped, reader, waiting, onward, onward_wants, onward_before, onward_last, onward_end, onward_done}
+use Rattle.pieces.proofs.Growing.{reader, waiting, onward, onward_wants, onward_before, onward_last, onward_end, onward_done}
 use Rattle.pieces.proofs.HeaderReader.gather.Goals as goal
 
 pub loop-count-init : goal.loop-count-init

@@ -1,17 +1,11 @@
 -- `pieces::HeaderReader::gather` meets its contract. The invariant: what the rest of the piece leads to, from where the loop stands, is
 -- what the whole piece leads to.
 -- Assumes nothing.
-use Prim.Native.Nat.{ℕ, ◌+◌, ◌-◌, ◌≤◌, ◌<◌}
-use native.Mathlib.Numerals.{add-one}
-use native.Mathlib.Omega.{arith}
-use mathlib.Core.List.{◌∷◌}
-use mathlib.Core.Path.{◌≡◌, sym, ap, ◌∙◌}
-use borrow.Author.Rules.{rules}
-use borrow.Author.Tests.{ltb-true, ltb-false}
-use lib.ListN.{length, drop, get_or, set, length-set, drop_of_length-le}
-use lib.Seq.{drop-cons}
+use Prim.Native.Nat.{◌-◌, ◌≤◌}
+use mathlib.Core.Path.{◌≡◌}
+use lib.ListN.{length, drop}
 use Rattle.pieces.specs.Steps.{gathered}
-use Rattle.pieces.proofs.Growing.{mapped, reader, waiting, onward, onward_wants, onward_before, onward_last, onward_end, onward_done}
+use Rattle.pieces.proofs.Growing.{reader, onward}
 use Rattle.pieces.proofs.HeaderReader.gather.Given as goal
 
 abbrev pub invariant-loop-count : goal.invariant-loop-count

@@ -7,7 +7,7 @@ use borrow.Author.Rules.{rules}
 use lib.ListN.{length}
 use Rattle.pieces.specs.Reader.{waits, taken}
 use Rattle.pieces.specs.Steps.{spoken}
-use Rattle.pieces.proofs.Growing.{mapped, taken_waiting, gathered_more}
+use Rattle.pieces.proofs.Growing.{taken_waiting, gathered_more}
 use Rattle.pieces.proofs.HeaderReader.take.Goals as goal
 
 pub overflow_sub-used : goal.overflow_sub-used

@@ -1,6 +1,5 @@
 -- `pieces::PieceAnswer::of` meets its contract: case by case.
 -- Assumes nothing.
-use borrow.Author.Rules.{rules}
 use Rattle.pieces.proofs.PieceAnswer.of.Goals as goal
 
 pub returns-in-Read : goal.returns-in-Read

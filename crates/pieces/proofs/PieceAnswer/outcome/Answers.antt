@@ -1,6 +1,5 @@
 -- `pieces::PieceAnswer::outcome` meets its contract: each case has its number and length.
 -- Assumes nothing.
-use borrow.Author.Rules.{rules}
 use Rattle.pieces.proofs.PieceAnswer.outcome.Goals as goal
 
 pub returns-in-More : goal.returns-in-More
