@@ -1,0 +1,10 @@
+-- `pieces_run::telling::put_answer` is safe: the label ends within the line.
+-- Assumes nothing.
+use Rattle.std.proofs.Common.{sym, arith, length-take-le, rules}
+use Rattle.line_cutter.proofs.Line.{before_length}
+use Rattle.pieces_run.proofs.telling.put_answer.Goals as goal
+
+pub slice_bounds-copy-end : goal.slice_bounds-copy-end
+slice_bounds-copy-end c =
+    let a = c.args in
+    sym (length-take-le _ _ (omega (arith, c.find-tab.ensures, before_length 9 9 a.line.now)))
