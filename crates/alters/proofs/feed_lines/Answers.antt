@@ -1,12 +1,9 @@
 -- `alters::feed_lines` meets its contract. The invariant: what is left of the chunk leads from here to where the whole chunk leads.
 -- Assumes nothing.
-use Prim.Native.Nat.{◌+◌, ◌-◌, ◌*◌, ◌≤◌}
+use Prim.Native.Nat.{◌≤◌}
 use native.Mathlib.Omega.{arith}
-use mathlib.Core.Path.{◌≡◌, refl, ◌∙◌}
-use borrow.Author.Rules.{rules}
-use lib.ListN.{length, take, drop}
-use Rattle.line_cutter.specs.Answers.{fed_to}
-use Rattle.line_cutter.specs.Line.{kept_most}
+use mathlib.Core.Path.{refl, ◌∙◌}
+use lib.ListN.{length}
 use Rattle.line_cutter.proofs.Answers.{fed_all}
 use Rattle.alters.specs.Answer.{answer}
 use Rattle.alters.proofs.feed_lines.Goals as goal

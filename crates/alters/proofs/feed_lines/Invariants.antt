@@ -1,13 +1,10 @@
 -- `alters::feed_lines` meets its contract. The invariant: what is left of the chunk leads from here to where the whole chunk leads.
 -- Assumes nothing.
 use Prim.Native.Nat.{◌+◌, ◌-◌, ◌*◌, ◌≤◌}
-use native.Mathlib.Omega.{arith}
-use mathlib.Core.Path.{◌≡◌, refl, ◌∙◌}
-use borrow.Author.Rules.{rules}
+use mathlib.Core.Path.{◌≡◌}
 use lib.ListN.{length, take, drop}
 use Rattle.line_cutter.specs.Answers.{fed_to}
 use Rattle.line_cutter.specs.Line.{kept_most}
-use Rattle.line_cutter.proofs.Answers.{fed_all}
 use Rattle.alters.specs.Answer.{answer}
 use Rattle.alters.proofs.feed_lines.Given as goal
 

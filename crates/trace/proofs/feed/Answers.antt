@@ -1,16 +1,12 @@
 -- `trace::feed` meets its contract. The invariant: what is left of the chunk leads from here to where the whole chunk leads.
 -- Assumes nothing.
-use Prim.Native.Nat.{ℕ, ◌+◌, ◌-◌, ◌*◌, ◌≤◌}
+use Prim.Native.Nat.{ℕ, ◌≤◌}
 use native.Mathlib.Omega.{arith}
-use mathlib.Core.Path.{◌≡◌, refl, ◌∙◌}
-use borrow.Author.Rules.{rules}
-use lib.ListN.{length, take, drop, length-replicate}
-use Rattle.line_cutter.specs.Line.{kept_most}
-use Rattle.line_cutter.specs.Telling.{worked_to}
+use mathlib.Core.Path.{refl, ◌∙◌}
+use lib.ListN.{length, take, length-replicate}
 use Rattle.line_cutter.proofs.Telling.{worked_all}
 use Rattle.trace.specs.Steps.{step_on, says}
 use Rattle.trace.specs.State.{trace_of}
-use Rattle.trace.specs.Within.{Within}
 use Rattle.trace.proofs.Finding.{told_on}
 use Rattle.trace.proofs.feed.Goals as goal
 

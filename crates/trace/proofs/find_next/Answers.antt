@@ -4,7 +4,6 @@ use Prim.Native.Nat.{ℕ}
 use native.Mathlib.Omega.{arith}
 use mathlib.Core.Bool.{true≢false}
 use mathlib.Core.Path.{◌≡◌, sym, ◌∙◌, subst}
-use borrow.Author.Rules.{rules}
 use lib.ListN.{take}
 use Rattle.trace.specs.Next.{Ends}
 use Rattle.trace.proofs.find_next.Goals as goal

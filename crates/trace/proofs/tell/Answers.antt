@@ -3,7 +3,6 @@
 use Prim.Native.Nat.{◌+◌, ◌≤◌}
 use native.Mathlib.Omega.{arith}
 use mathlib.Core.Path.{◌≡◌, ap}
-use borrow.Author.Rules.{rules}
 use lib.ListN.{length}
 use Rattle.labelled.proofs.Putting.{same, roomy}
 use Rattle.trace.specs.Plain.{Trace}

@@ -1,7 +1,6 @@
 -- `trace_line::of_source` meets its contract.
 -- Assumes nothing.
 use native.Mathlib.Omega.{arith}
-use borrow.Author.Rules.{rules}
 use Rattle.trace_line.proofs.of_source.Goals as goal
 
 pub returns-in-Present : goal.returns-in-Present

@@ -1,7 +1,6 @@
 -- `trace_line::sender_of` meets its contract.
 -- Assumes nothing.
 use native.Mathlib.Omega.{arith}
-use borrow.Author.Rules.{rules}
 use Rattle.trace_line.proofs.sender_of.Goals as goal
 
 pub returns-in-Short : goal.returns-in-Short

@@ -1,6 +1,5 @@
 -- `alters::telling::put_bit` meets its contract: four stores, one after the other.
 -- Assumes nothing.
-use borrow.Author.Rules.{rules}
 use Rattle.labelled.proofs.Putting.{join}
 use Rattle.alters.proofs.telling.put_bit.Goals as goal
 

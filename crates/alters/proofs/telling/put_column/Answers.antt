@@ -1,7 +1,6 @@
 -- `alters::telling::put_column` meets its contract: the mark tells whether there was a bit.
 -- Assumes nothing.
 use mathlib.Core.Path.{sym, ◌∙◌}
-use borrow.Author.Rules.{rules}
 use Rattle.labelled.proofs.Putting.{join, same}
 use Rattle.alters.proofs.Marks.{dashed, undashed}
 use Rattle.alters.proofs.telling.put_column.Goals as goal

@@ -1,12 +1,7 @@
 -- `alters::telling::put_mask` meets its contract. The invariant: the bits below the one at hand are told.
 -- Assumes nothing.
-use Prim.Native.Nat.{◌+◌, ◌-◌, ◌≤◌}
 use native.Mathlib.Omega.{arith}
 use mathlib.Core.Path.{◌≡◌, refl, ap, ◌∙◌}
-use borrow.Author.Rules.{rules}
-use lib.ListN.{length}
-use Rattle.octets.proofs.Cases.{cases}
-use Rattle.labelled.specs.Put.{Put}
 use Rattle.labelled.proofs.Putting.{none, same}
 use Rattle.alters.specs.Bits.{bits_below}
 use Rattle.alters.specs.Steps.{marked, next_mark}
@@ -23,12 +18,12 @@ loop-bit-preserved c =
     let a = c.args in
     let l = c.loop-bit in
     elim c.if-mask-bit-eq1.branch [
-      then-mask-bit-eq1 w ↦
-        let s = told_set a.mark l.before a.place a.mask l.bit l.invariant.3 l.invariant.2 w.if-mask-bit-eq1.true w.put_bit-next.ensures in
-        rw (w.out-is, w.before-is, w.next-is) (omega arith, w.put_bit-next.auto.out ∙ l.invariant.1, s.0, s.1)
-    | else-mask-bit-eq1 w ↦
-        let s = told_clear a.mark l.before a.place a.mask l.bit l.invariant.3 l.invariant.2 w.if-mask-bit-eq1.false in
-        rw (w.out-is, w.before-is, w.next-is) (omega arith, l.invariant.1, s.0, s.1)
+      | then-mask-bit-eq1 w ↦
+          let s = told_set a.mark l.before a.place a.mask l.bit l.invariant.3 l.invariant.2 w.if-mask-bit-eq1.true w.put_bit-next.ensures in
+          rw (w.out-is, w.before-is, w.next-is) (omega arith, w.put_bit-next.auto.out ∙ l.invariant.1, s.0, s.1)
+      | else-mask-bit-eq1 w ↦
+          let s = told_clear a.mark l.before a.place a.mask l.bit l.invariant.3 l.invariant.2 w.if-mask-bit-eq1.false in
+          rw (w.out-is, w.before-is, w.next-is) (omega arith, l.invariant.1, s.0, s.1)
     ]
 
 pub returns : goal.returns

@@ -1,11 +1,9 @@
 -- `alters::telling::put_masks` meets its contract. The invariant: the bits of the bytes before the one at hand are told.
 -- Assumes nothing.
-use Prim.Native.Nat.{◌-◌, ◌≤◌}
 use native.Mathlib.Omega.{arith}
 use mathlib.Core.Path.{◌≡◌, refl, ap, ◌∙◌}
 use borrow.Author.Rules.{rules}
-use lib.ListN.{length, get_or}
-use Rattle.labelled.specs.Put.{Put}
+use lib.ListN.{get_or}
 use Rattle.labelled.proofs.Putting.{none, same}
 use Rattle.alters.specs.Bits.{bits_below}
 use Rattle.alters.specs.Steps.{bits_at, marked, next_mark}

@@ -1,15 +1,10 @@
 -- `alters::telling::put_masks` meets its contract. The invariant: the bits of the bytes before the one at hand are told.
 -- Assumes nothing.
 use Prim.Native.Nat.{◌-◌, ◌≤◌}
-use native.Mathlib.Omega.{arith}
-use mathlib.Core.Path.{◌≡◌, refl, ap, ◌∙◌}
-use borrow.Author.Rules.{rules}
-use lib.ListN.{length, get_or}
+use mathlib.Core.Path.{◌≡◌}
+use lib.ListN.{length}
 use Rattle.labelled.specs.Put.{Put}
-use Rattle.labelled.proofs.Putting.{none, same}
-use Rattle.alters.specs.Bits.{bits_below}
 use Rattle.alters.specs.Steps.{bits_at, marked, next_mark}
-use Rattle.alters.proofs.Marks.{told_on, mark_behind, at_more}
 use Rattle.alters.proofs.telling.put_masks.Given as goal
 
 abbrev pub invariant-loop-i : goal.invariant-loop-i

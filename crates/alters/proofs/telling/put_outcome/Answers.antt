@@ -1,6 +1,5 @@
 -- `alters::telling::put_outcome` meets its contract: four stores, one after the other.
 -- Assumes nothing.
-use borrow.Author.Rules.{rules}
 use Rattle.labelled.proofs.Putting.{join}
 use Rattle.alters.specs.Answer.{outcome_told}
 use Rattle.alters.proofs.telling.put_outcome.Goals as goal

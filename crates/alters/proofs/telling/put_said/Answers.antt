@@ -2,7 +2,6 @@
 -- Assumes nothing.
 use native.Mathlib.Omega.{arith}
 use mathlib.Core.List.{[], ◌∷◌, ◌++◌}
-use borrow.Author.Rules.{rules}
 use Rattle.labelled.proofs.Putting.{join, same}
 use Rattle.alters.specs.Answer.{column, outcome_told, said}
 use Rattle.alters.proofs.Arrays.{Listed, listed}

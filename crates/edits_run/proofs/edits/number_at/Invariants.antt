@@ -1,7 +1,6 @@
 -- `edits_run::edits::number_at` is safe and ends. The measure is the number of bytes that are left.
 -- Assumes nothing.
 use Prim.Native.Nat.{◌-◌, ◌≤◌}
-use borrow.Author.Rules.{rules}
 use Rattle.edits_run.proofs.edits.number_at.Given as goal
 
 abbrev pub invariant-loop-i : goal.invariant-loop-i

@@ -1,7 +1,6 @@
 -- `edits_run::telling::are_edits` is safe and ends. The measure is the number of turns that are left.
 -- Assumes nothing.
 use Prim.Native.Nat.{◌-◌, ◌≤◌}
-use borrow.Author.Rules.{rules}
 use Rattle.edits_run.proofs.telling.are_edits.Given as goal
 
 abbrev pub invariant-loop : goal.invariant-loop

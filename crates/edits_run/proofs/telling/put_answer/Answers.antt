@@ -2,7 +2,6 @@
 -- Assumes nothing.
 use native.Mathlib.Omega.{arith}
 use mathlib.Core.Path.{sym}
-use borrow.Author.Rules.{rules}
 use lib.Seq.{length-take-le}
 use Rattle.line_cutter.proofs.Line.{before_length}
 use Rattle.edits_run.proofs.telling.put_answer.Goals as goal

@@ -1,6 +1,6 @@
 -- `pieces_run::telling::put_answer` is safe: the label ends within the line.
 -- Assumes nothing.
-use Rattle.std.proofs.Common.{sym, arith, length-take-le, rules}
+use Rattle.std.proofs.Common.{sym, arith, length-take-le}
 use Rattle.line_cutter.proofs.Line.{before_length}
 use Rattle.pieces_run.proofs.telling.put_answer.Goals as goal
 

@@ -1,8 +1,7 @@
 -- `pieces_run::telling::take_pieces` is safe and ends: a piece has no more bytes than its buffer. The measure is the number of turns that
 -- are left.
 -- Assumes nothing.
-use Rattle.std.proofs.Common.{◌≡◌, ℕ, ◌-◌, ◌≤◌, List, length, drop, sym, arith, length-take, length-take-le, rules}
-use Rattle.hexadecimal.specs.Hex.{unhex_by, decoded_by}
+use Rattle.std.proofs.Common.{◌≡◌, ◌-◌, ◌≤◌, length}
 use Rattle.pieces_run.proofs.telling.take_pieces.Given as goal
 
 abbrev pub invariant-loop : goal.invariant-loop

@@ -1,7 +1,6 @@
 -- `trace::counting::count` meets its contract: each kind of line is counted as the definition has it.
 -- Assumes nothing.
 use native.Mathlib.Omega.{arith}
-use borrow.Author.Rules.{rules}
 use Rattle.trace.proofs.Stepping.{later, on_unread, on_refused, on_sourceless, on_counted, on_crowded}
 use Rattle.trace.proofs.counting.count.Goals as goal
 

@@ -1,6 +1,5 @@
 -- `trace::telling::put_count` meets its contract: two stores, one after the other.
 -- Assumes nothing.
-use borrow.Author.Rules.{rules}
 use Rattle.labelled.proofs.Putting.{copied, join}
 use Rattle.trace.proofs.telling.put_count.Goals as goal
 

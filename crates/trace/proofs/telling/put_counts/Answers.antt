@@ -1,6 +1,5 @@
 -- `trace::telling::put_counts` meets its contract: three stores, one after the other.
 -- Assumes nothing.
-use borrow.Author.Rules.{rules}
 use Rattle.labelled.proofs.Putting.{join}
 use Rattle.trace.proofs.telling.put_counts.Goals as goal
 

@@ -1,15 +1,10 @@
 -- `trace::telling::put_hex` meets its contract. The invariant: the digits above the one at hand are stored.
 -- Assumes nothing.
-use Prim.Native.Nat.{ℕ, ◌-◌, ◌*◌, ◌/◌, ◌^◌, ◌≤◌}
-use native.Mathlib.Omega.{arith}
-use mathlib.Core.List.{[], ◌∷◌, ◌++◌}
-use mathlib.Core.Path.{◌≡◌, refl, ap, ◌∙◌}
-use borrow.Author.Rules.{rules}
+use Prim.Native.Nat.{◌-◌, ◌*◌, ◌/◌, ◌^◌, ◌≤◌}
+use mathlib.Core.Path.{◌≡◌}
 use lib.ListN.{length}
 use Rattle.labelled.specs.Hexed.{hex_by}
 use Rattle.labelled.specs.Put.{Put}
-use Rattle.labelled.proofs.Putting.{none, join, same}
-use Rattle.trace.proofs.Hexes.{hex_none, hex_more, hex_all}
 use Rattle.trace.proofs.telling.put_hex.Given as goal
 
 abbrev pub invariant-loop-i : goal.invariant-loop-i

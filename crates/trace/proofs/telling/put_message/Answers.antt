@@ -1,6 +1,5 @@
 -- `trace::telling::put_message` meets its contract: three stores, or none for the answer 0.
 -- Assumes nothing.
-use borrow.Author.Rules.{rules}
 use borrow.Author.Tests.{eq-eqb, ne_eqb}
 use Rattle.labelled.proofs.Putting.{none, join}
 use Rattle.trace.specs.Output.{message}

@@ -1,6 +1,5 @@
 -- `trace::telling::put_others` meets its contract: five stores, one after the other.
 -- Assumes nothing.
-use borrow.Author.Rules.{rules}
 use Rattle.labelled.proofs.Putting.{join}
 use Rattle.trace.specs.Output.{other_lines}
 use Rattle.trace.proofs.telling.put_others.Goals as goal

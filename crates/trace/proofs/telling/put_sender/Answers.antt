@@ -1,6 +1,5 @@
 -- `trace::telling::put_sender` meets its contract: four stores, one after the other.
 -- Assumes nothing.
-use borrow.Author.Rules.{rules}
 use Rattle.labelled.proofs.Putting.{copied, join, same}
 use Rattle.trace.proofs.Stores.{line_parts}
 use Rattle.trace.proofs.telling.put_sender.Goals as goal

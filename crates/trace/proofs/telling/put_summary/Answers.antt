@@ -1,6 +1,5 @@
 -- `trace::telling::put_summary` meets its contract: two stores, one after the other.
 -- Assumes nothing.
-use borrow.Author.Rules.{rules}
 use Rattle.labelled.proofs.Putting.{join}
 use Rattle.trace.specs.Output.{other_lines, summary}
 use Rattle.trace.proofs.telling.put_summary.Goals as goal
