@@ -25,7 +25,7 @@ const ROOM: usize = KEPT_MOST + 250 * CHUNK;
 
 // In the midst of a chunk: how many bytes of the line at hand are kept, how much of the output is used, and the place
 // up to which the chunk is used.
-#[derive(Drop)]
+#[derive(Clone, Copy)]
 struct Step {
     n: usize,
     used: usize,
@@ -34,7 +34,7 @@ struct Step {
 
 // A turn: n bytes of the line at hand are kept, got bytes were read, used bytes were to be written, and what comes
 // next.
-#[derive(Drop)]
+#[derive(Clone, Copy)]
 struct Turn {
     n: usize,
     got: usize,

@@ -12,7 +12,7 @@ use labelled::{FRAME_MOST, part, put_bad, put_byte, put_decimal};
 use octets::{Outcome, copy};
 
 // The mark that goes before the next bit, and the place behind what was stored.
-#[derive(Drop)]
+#[derive(Clone, Copy)]
 struct Told {
     mark: u8,
     next: usize,

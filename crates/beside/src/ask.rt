@@ -14,7 +14,7 @@ pub(crate) const MOST_ROOM: usize = 256;
 pub(crate) const FILL: u8 = 0xa5;
 
 // The place where reading begins, the place where writing begins, and the counter's choice and value.
-#[derive(Drop)]
+#[derive(Clone, Copy)]
 pub(crate) struct Ask {
     pub(crate) place: usize,
     pub(crate) at: usize,

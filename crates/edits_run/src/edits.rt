@@ -6,7 +6,7 @@ use hexadecimal::decode_by;
 use identifiers::{ExtendedAddress, PanId, ShortAddress};
 use octets::{behind, u8_at};
 
-#[derive(Drop)]
+#[derive(Clone, Copy)]
 pub(crate) enum Edit {
     ReplaceDestination(Address),
     ReplaceSource(Address),
@@ -16,7 +16,7 @@ pub(crate) enum Edit {
 }
 
 // What stands at a place of a line: an edit with the place behind it, or none.
-#[derive(Drop)]
+#[derive(Clone, Copy)]
 pub(crate) enum EditFound {
     Found(Edit, usize),
     Malformed,

@@ -12,7 +12,7 @@ const HEADER_MOST: usize = 37;
 
 // What stands behind the label of a line: whether it is of its form, what reading its frame answers, and the place of
 // its edits.
-#[derive(Drop)]
+#[derive(Clone, Copy)]
 struct Columns {
     good: bool,
     read: HeaderRead,
@@ -20,7 +20,7 @@ struct Columns {
 }
 
 // A record behind edits, and the place behind the numbers that they gave.
-#[derive(Drop)]
+#[derive(Clone, Copy)]
 struct Edited {
     header: Header,
     next: usize,

@@ -19,7 +19,7 @@ const ROOM: usize = KEPT_MOST + 5 * CHUNK;
 
 // A turn: n bytes of the line at hand are kept, got bytes were read, used bytes were to be written, and what comes
 // next.
-#[derive(Drop)]
+#[derive(Clone, Copy)]
 struct Turn {
     n: usize,
     got: usize,

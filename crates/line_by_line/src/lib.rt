@@ -19,7 +19,7 @@ pub const ANSWER_MOST: usize = 4096;
 
 // Where a run stands: whether a line was found, and how many bytes of it are kept; how many bytes of the answers wait;
 // which part of the chunk is still to be used; and what comes behind that.
-#[derive(Drop)]
+#[derive(Clone, Copy)]
 pub struct Turn {
     pub found: bool,
     pub n: usize,

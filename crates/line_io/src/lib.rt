@@ -15,7 +15,7 @@ pub const ENDED: u8 = 1;
 pub const FAILED: u8 = 2;
 
 // How many bytes were read, and what comes next.
-#[derive(Drop)]
+#[derive(Clone, Copy)]
 pub struct Got {
     pub count: usize,
     pub next: u8,

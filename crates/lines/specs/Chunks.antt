@@ -5,8 +5,8 @@ use Rattle.std.specs.Prelude.{replicate}
 use Rattle.line_cutter.specs.{Answers.answers, Answers.fed_to, Line.kept_most, Lines.last}
 use Rattle.lines.specs.{declared.Fed.Fed, Answer.answer}
 
--- a chunk of so many bytes is taken with a line buffer of keptMost bytes, at most as many of them in use, and room in
--- the output for keptMost bytes and five for each of the chunk
+-- a chunk of so many bytes is taken with a line buffer of kept_most bytes, at most as many of them in use, and room in
+-- the output for kept_most bytes and five for each of the chunk
 unfoldable pub takes : ℕ → ℕ → ℕ → ℕ → Bool
 takes size line n room = eqb line kept_most && leb n kept_most && leb (kept_most + 5 * size) room
 

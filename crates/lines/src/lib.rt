@@ -155,8 +155,8 @@ fn feed_lines(chunk: &[u8], line: &mut [u8], n: usize, out: &mut [u8]) -> Step
     requires n_le_kept_most { n ≤ kept_most }
     requires line_len { length line.old ≡ kept_most }
     requires chunk_in_bounds { kept_most + 5 * length chunk.now ≤ length out.old }
-    ensures line_after { record { out = out.exit.now; used = result.used; kept = take result.n line.new }
-        ≡ fed_to answer (take n line.old) chunk.now out.entry.now 0 }
+    ensures line_after { record { out = out.new; used = result.used; kept = take result.n line.new }
+        ≡ fed_to answer (take n line.old) chunk.now out.old 0 }
     ensures n_le_kept_most_2 { result.n ≤ kept_most }
     ensures used_in_bounds { result.used ≤ length out.old }
 {

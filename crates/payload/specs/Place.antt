@@ -1,4 +1,4 @@
--- Where in memory a part of a slice begins. A reference points (`ptr`) at a block of memory and an offset in it; the
+-- Where in memory a part of a slice begins. A reference points (`ref_ptr`) at a block of memory and an offset in it; the
 -- bytes alone (`now`) do not tell of two stretches with the same bytes which one is meant, nor of two empty ones.
 use Rattle.std.specs.Borrow.{Bor}
 use Rattle.std.specs.Prelude.{ℕ, ◌+◌, List, ◌≡◌}

@@ -11,7 +11,7 @@ use std::num::wrapping_add_usize;
 // What the calls have answered: how many there were, and how many bytes they used; which of them gave the answer, its
 // number and length, and the record written again, so many bytes; and how many were answered 9. And whether all pieces
 // were whole bytes.
-#[derive(Drop)]
+#[derive(Clone, Copy)]
 struct Calls {
     count: usize,
     used: usize,

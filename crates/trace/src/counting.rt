@@ -25,7 +25,7 @@ pub struct Counts {
 }
 
 // The counts behind a line, and how it is answered: 10, 11, or 0 where nothing is written.
-#[derive(Drop)]
+#[derive(Clone, Copy)]
 pub struct Answered {
     pub counts: Counts,
     pub answer: u64,

@@ -37,7 +37,7 @@ const ROOM: usize = 16 * CHUNK;
 
 // What was found of the line at hand: whether it has ended, what it then says, how many bytes of it are kept, and the
 // place up to which the chunk is used.
-#[derive(Drop)]
+#[derive(Clone, Copy)]
 struct Found {
     ended: bool,
     said: Saying,
@@ -46,7 +46,7 @@ struct Found {
 }
 
 // The counts behind a line, and how much of the output is used.
-#[derive(Drop)]
+#[derive(Clone, Copy)]
 struct Told {
     counts: Counts,
     used: usize,
@@ -54,7 +54,7 @@ struct Told {
 
 // Where a chunk leaves the program: the counts, how many bytes of the line at hand are kept, and how much of the output
 // is used.
-#[derive(Drop)]
+#[derive(Clone, Copy)]
 struct Fed {
     counts: Counts,
     n: usize,
@@ -63,7 +63,7 @@ struct Fed {
 
 // A turn: the counts, n bytes of the line at hand are kept, got bytes were read, used bytes were to be written, and what
 // comes next.
-#[derive(Drop)]
+#[derive(Clone, Copy)]
 struct Turn {
     counts: Counts,
     n: usize,
