@@ -22,9 +22,10 @@ returns-then-outcome-ne0 c = told_none c.args.frame.now c.rewriting-outcome.resu
 
 pub returns-then-not-holds_beacon : goal.returns-then-not-holds_beacon
 returns-then-not-holds_beacon c =
+    -- whether the frame holds a beacon
     let alone : holds_beacon (number c.args.frame.now 0 2) ≡ false = ap holds_beacon (sym c.u16_at-w.ensures) ∙ sym c.holds_beacon.ensures ∙ not-true _ c.if-not-holds_beacon.true-raw in
     let s = c.args.frame.now in
-    let listed = ap header_bits c.u16_at-w.ensures ∙ listed_alone s (alone) in
+    let listed = ap header_bits c.u16_at-w.ensures ∙ listed_alone s alone in
     told_some s c.rewriting-outcome.result c.rewriting-outcome.ensures _ _ _ _ c.if-outcome-ne0.false (ap (altered_in s) listed)
     c.note_header-header.ensures.noted
 
@@ -33,7 +34,7 @@ note_beacon-count-requires c =
     let both : holds_beacon (number c.args.frame.now 0 2) ≡ true = ap holds_beacon (sym c.u16_at-w.ensures) ∙ sym c.holds_beacon.ensures ∙ not-false _ c.if-not-holds_beacon.false-raw in
     let long = noted_long c.note_header-header.ensures.noted in
     let off = ap (λ (w : ℕ). bit w 3) c.u16_at-w.ensures
-    ∙ beacon_unsecured (number c.args.frame.now 0 2) (both) in record {
+    ∙ beacon_unsecured (number c.args.frame.now 0 2) both in record {
       at_bound = c.source_end.ensures.upper_bound;
       count_bound = c.note_header-header.ensures.upper_bound off;
       places_len = long.0;
@@ -45,7 +46,7 @@ returns c =
     let both : holds_beacon (number c.args.frame.now 0 2) ≡ true = ap holds_beacon (sym c.u16_at-w.ensures) ∙ sym c.holds_beacon.ensures ∙ not-false _ c.if-not-holds_beacon.false-raw in
     let s = c.args.frame.now in
     let place = c.source_end.ensures.value ∙ ap source_end c.u16_at-w.ensures in
-    let listed = (λ i. header_bits (c.u16_at-w.ensures i) ++ beacon_bits s (place i)) ∙ listed_beacon s (both) in
+    let listed = (λ i. header_bits (c.u16_at-w.ensures i) ++ beacon_bits s (place i)) ∙ listed_beacon s both in
     told_some s c.rewriting-outcome.result c.rewriting-outcome.ensures _ _ _ _ c.if-outcome-ne0.false
     (sym (altered_append s (header_bits c.u16_at-w.result) (beacon_bits s c.source_end.result)) ∙ ap (altered_in s) listed)
     (noted_on c.note_header-header.ensures.noted c.note_beacon-count.ensures)

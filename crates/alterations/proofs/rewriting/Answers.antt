@@ -25,71 +25,74 @@ returns-then-header-ne0 c = c.measure_header-header.ensures ∙ header_refused c
 pub returns-then-sourceless : goal.returns-then-sourceless
 returns-then-sourceless c =
     let frame : List ℕ = c.args.frame.now in
-    let read : (measured (frame)).number ≡ 0 = ap (λ (o : Outcome). o.number) (sym c.measure_header-header.ensures) ∙ c.if-header-ne0.false in
-    let alone : holds_beacon (number (frame) 0 2) ≡ false = ap holds_beacon (sym c.u16_at-w.ensures) ∙ sym c.holds_beacon.ensures ∙ not-true _ c.if-not-holds_beacon.true-raw in
+    -- behind a header that is accepted
+    let read : (measured frame).number ≡ 0 = ap (λ (o : Outcome). o.number) (sym c.measure_header-header.ensures) ∙ c.if-header-ne0.false in
+    -- whether it holds a beacon
+    let alone : holds_beacon (number frame 0 2) ≡ false = ap holds_beacon (sym c.u16_at-w.ensures) ∙ sym c.holds_beacon.ensures ∙ not-true _ c.if-not-holds_beacon.true-raw in
     c.refused.ensures
-    ∙ alone_sourceless (frame) (read) (alone)
+    ∙ alone_sourceless frame read alone
     (ap sourceless (sym c.u16_at-w.ensures) ∙ sym c.sourceless.ensures ∙ c.if-sourceless.true)
 
 pub returns-then-not-holds_beacon : goal.returns-then-not-holds_beacon
 returns-then-not-holds_beacon c =
     let frame : List ℕ = c.args.frame.now in
-    let read : (measured (frame)).number ≡ 0 = ap (λ (o : Outcome). o.number) (sym c.measure_header-header.ensures) ∙ c.if-header-ne0.false in
-    let alone : holds_beacon (number (frame) 0 2) ≡ false = ap holds_beacon (sym c.u16_at-w.ensures) ∙ sym c.holds_beacon.ensures ∙ not-true _ c.if-not-holds_beacon.true-raw in
+    let read : (measured frame).number ≡ 0 = ap (λ (o : Outcome). o.number) (sym c.measure_header-header.ensures) ∙ c.if-header-ne0.false in
+    let alone : holds_beacon (number frame 0 2) ≡ false = ap holds_beacon (sym c.u16_at-w.ensures) ∙ sym c.holds_beacon.ensures ∙ not-true _ c.if-not-holds_beacon.true-raw in
     c.measure_header-header.ensures
-    ∙ alone_accepted (frame) (read) (alone)
+    ∙ alone_accepted frame read alone
     (ap sourceless (sym c.u16_at-w.ensures) ∙ sym c.sourceless.ensures ∙ c.if-sourceless.false)
 
 pub returns-then-beacon-ne0 : goal.returns-then-beacon-ne0
 returns-then-beacon-ne0 c =
     let frame : List ℕ = c.args.frame.now in
-    let read : (measured (frame)).number ≡ 0 = ap (λ (o : Outcome). o.number) (sym c.measure_header-header.ensures) ∙ c.if-header-ne0.false in
-    let both : holds_beacon (number (frame) 0 2) ≡ true = ap holds_beacon (sym c.u16_at-w.ensures) ∙ sym c.holds_beacon.ensures ∙ not-false _ c.if-not-holds_beacon.false-raw in
-    let long : c.measure_header-header.result.length ≡ header_end (frame) (number (frame) 0 2) = ap (λ (o : Outcome). o.length) (c.measure_header-header.ensures ∙ header_long (frame) (read)) in
-    let measured_there : (let s = frame in c.measure_beacon-beacon.result ≡ (read_beacon s (header_end s (number s 0 2))).outcome) = c.measure_beacon-beacon.ensures ∙ ap (λ (n : ℕ). (read_beacon (frame) n).outcome) (long) in
+    let read : (measured frame).number ≡ 0 = ap (λ (o : Outcome). o.number) (sym c.measure_header-header.ensures) ∙ c.if-header-ne0.false in
+    let both : holds_beacon (number frame 0 2) ≡ true = ap holds_beacon (sym c.u16_at-w.ensures) ∙ sym c.holds_beacon.ensures ∙ not-false _ c.if-not-holds_beacon.false-raw in
+    let long : c.measure_header-header.result.length ≡ header_end frame (number frame 0 2) = ap (λ (o : Outcome). o.length) (c.measure_header-header.ensures ∙ header_long frame read) in
+    -- the beacon behind the header
+    let measured_there : (let s = frame in c.measure_beacon-beacon.result ≡ (read_beacon s (header_end s (number s 0 2))).outcome) = c.measure_beacon-beacon.ensures ∙ ap (λ (n : ℕ). (read_beacon frame n).outcome) long in
     let told = measured_there in
     told
-    ∙ beacon_refused_lem (frame) (read) (both)
+    ∙ beacon_refused_lem frame read both
     (λ z. c.if-beacon-ne0.true (ap (λ (o : Outcome). o.number) told ∙ z))
 
 pub returns-then-sourceless-2 : goal.returns-then-sourceless-2
 returns-then-sourceless-2 c =
     let frame : List ℕ = c.args.frame.now in
-    let read : (measured (frame)).number ≡ 0 = ap (λ (o : Outcome). o.number) (sym c.measure_header-header.ensures) ∙ c.if-header-ne0.false in
-    let both : holds_beacon (number (frame) 0 2) ≡ true = ap holds_beacon (sym c.u16_at-w.ensures) ∙ sym c.holds_beacon.ensures ∙ not-false _ c.if-not-holds_beacon.false-raw in
-    let long : c.measure_header-header.result.length ≡ header_end (frame) (number (frame) 0 2) = ap (λ (o : Outcome). o.length) (c.measure_header-header.ensures ∙ header_long (frame) (read)) in
-    let measured_there : (let s = frame in c.measure_beacon-beacon.result ≡ (read_beacon s (header_end s (number s 0 2))).outcome) = c.measure_beacon-beacon.ensures ∙ ap (λ (n : ℕ). (read_beacon (frame) n).outcome) (long) in
-    let beacon_there : (let s = frame in (read_beacon s (header_end s (number s 0 2))).outcome.number ≡ 0) = ap (λ (o : Outcome). o.number) (sym (measured_there)) ∙ c.if-beacon-ne0.false in
+    let read : (measured frame).number ≡ 0 = ap (λ (o : Outcome). o.number) (sym c.measure_header-header.ensures) ∙ c.if-header-ne0.false in
+    let both : holds_beacon (number frame 0 2) ≡ true = ap holds_beacon (sym c.u16_at-w.ensures) ∙ sym c.holds_beacon.ensures ∙ not-false _ c.if-not-holds_beacon.false-raw in
+    let long : c.measure_header-header.result.length ≡ header_end frame (number frame 0 2) = ap (λ (o : Outcome). o.length) (c.measure_header-header.ensures ∙ header_long frame read) in
+    let measured_there : (let s = frame in c.measure_beacon-beacon.result ≡ (read_beacon s (header_end s (number s 0 2))).outcome) = c.measure_beacon-beacon.ensures ∙ ap (λ (n : ℕ). (read_beacon frame n).outcome) long in
+    let beacon_there : (let s = frame in (read_beacon s (header_end s (number s 0 2))).outcome.number ≡ 0) = ap (λ (o : Outcome). o.number) (sym measured_there) ∙ c.if-beacon-ne0.false in
     c.refused-then-sourceless-2.ensures
-    ∙ both_sourceless (frame) (read) (both) (beacon_there)
+    ∙ both_sourceless frame read both beacon_there
     (ap sourceless (sym c.u16_at-w.ensures) ∙ sym c.sourceless-2.ensures ∙ c.if-sourceless-2.true)
 
 pub overflow_add-header : goal.overflow_add-header
 overflow_add-header c =
     let frame : List ℕ = c.args.frame.now in
-    let read : (measured (frame)).number ≡ 0 = ap (λ (o : Outcome). o.number) (sym c.measure_header-header.ensures) ∙ c.if-header-ne0.false in
-    let long : c.measure_header-header.result.length ≡ header_end (frame) (number (frame) 0 2) = ap (λ (o : Outcome). o.length) (c.measure_header-header.ensures ∙ header_long (frame) (read)) in
-    let measured_there : (let s = frame in c.measure_beacon-beacon.result ≡ (read_beacon s (header_end s (number s 0 2))).outcome) = c.measure_beacon-beacon.ensures ∙ ap (λ (n : ℕ). (read_beacon (frame) n).outcome) (long) in
-    let beacon_there : (let s = frame in (read_beacon s (header_end s (number s 0 2))).outcome.number ≡ 0) = ap (λ (o : Outcome). o.number) (sym (measured_there)) ∙ c.if-beacon-ne0.false in
+    let read : (measured frame).number ≡ 0 = ap (λ (o : Outcome). o.number) (sym c.measure_header-header.ensures) ∙ c.if-header-ne0.false in
+    let long : c.measure_header-header.result.length ≡ header_end frame (number frame 0 2) = ap (λ (o : Outcome). o.length) (c.measure_header-header.ensures ∙ header_long frame read) in
+    let measured_there : (let s = frame in c.measure_beacon-beacon.result ≡ (read_beacon s (header_end s (number s 0 2))).outcome) = c.measure_beacon-beacon.ensures ∙ ap (λ (n : ℕ). (read_beacon frame n).outcome) long in
+    let beacon_there : (let s = frame in (read_beacon s (header_end s (number s 0 2))).outcome.number ≡ 0) = ap (λ (o : Outcome). o.number) (sym measured_there) ∙ c.if-beacon-ne0.false in
     omega (
       arith,
       long,
-      ap (λ (o : Outcome). o.length) (measured_there),
-      beacon_within frame _ (beacon_there),
+      ap (λ (o : Outcome). o.length) measured_there,
+      beacon_within frame _ beacon_there,
       (read_accepted frame _ (header_long frame read)).within,
     )
 
 pub returns : goal.returns
 returns c =
     let frame : List ℕ = c.args.frame.now in
-    let read : (measured (frame)).number ≡ 0 = ap (λ (o : Outcome). o.number) (sym c.measure_header-header.ensures) ∙ c.if-header-ne0.false in
-    let long : c.measure_header-header.result.length ≡ header_end (frame) (number (frame) 0 2) = ap (λ (o : Outcome). o.length) (c.measure_header-header.ensures ∙ header_long (frame) (read)) in
-    let both : holds_beacon (number (frame) 0 2) ≡ true = ap holds_beacon (sym c.u16_at-w.ensures) ∙ sym c.holds_beacon.ensures ∙ not-false _ c.if-not-holds_beacon.false-raw in
-    let measured_there : (let s = frame in c.measure_beacon-beacon.result ≡ (read_beacon s (header_end s (number s 0 2))).outcome) = c.measure_beacon-beacon.ensures ∙ ap (λ (n : ℕ). (read_beacon (frame) n).outcome) (long) in
-    let beacon_there : (let s = frame in (read_beacon s (header_end s (number s 0 2))).outcome.number ≡ 0) = ap (λ (o : Outcome). o.number) (sym (measured_there)) ∙ c.if-beacon-ne0.false in
+    let read : (measured frame).number ≡ 0 = ap (λ (o : Outcome). o.number) (sym c.measure_header-header.ensures) ∙ c.if-header-ne0.false in
+    let long : c.measure_header-header.result.length ≡ header_end frame (number frame 0 2) = ap (λ (o : Outcome). o.length) (c.measure_header-header.ensures ∙ header_long frame read) in
+    let both : holds_beacon (number frame 0 2) ≡ true = ap holds_beacon (sym c.u16_at-w.ensures) ∙ sym c.holds_beacon.ensures ∙ not-false _ c.if-not-holds_beacon.false-raw in
+    let measured_there : (let s = frame in c.measure_beacon-beacon.result ≡ (read_beacon s (header_end s (number s 0 2))).outcome) = c.measure_beacon-beacon.ensures ∙ ap (λ (n : ℕ). (read_beacon frame n).outcome) long in
+    let beacon_there : (let s = frame in (read_beacon s (header_end s (number s 0 2))).outcome.number ≡ 0) = ap (λ (o : Outcome). o.number) (sym measured_there) ∙ c.if-beacon-ne0.false in
     c.accepted.ensures
     ∙ (λ i. accepted (long i + (measured_there i).length))
-    ∙ both_accepted (frame) (read) (both) (beacon_there)
+    ∙ both_accepted frame read both beacon_there
     (ap sourceless (sym c.u16_at-w.ensures)
     ∙ sym c.sourceless-2.ensures
     ∙ c.if-sourceless-2.false)

@@ -26,9 +26,9 @@ returns-else-n-gt0 g c =
 pub slice_bounds-put_answer-end : goal.slice_bounds-put_answer-end
 slice_bounds-put_answer-end g c =
     let whole : (let a = c.args in length (take a.n a.line.now) ≡ a.n) = length-take-le _ _ (omega (arith, c.requires.n_le_kept_most, c.requires.line_len)) in
-    sym (whole)
+    sym whole
 
 pub slice_bounds-write_all-end-then-n-gt0 : goal.slice_bounds-write_all-end-then-n-gt0
 slice_bounds-write_all-end-then-n-gt0 g c =
     let within : c.put_answer-used.result ≤ length c.put_answer-used.new.out = omega (arith, c.put_answer-used.ensures.next, c.put_answer-used.auto.out) in
-    sym (length-take-le _ _ (within))
+    sym (length-take-le _ _ within)

@@ -17,10 +17,12 @@ pub loop-i-preserved : goal.loop-i-preserved
 loop-i-preserved c =
     let s = c.args.s.now in
     let b = get_or s c.loop-i.i 0 in
+    -- the byte at hand is a digit
     let digit : is_numeral b ≡ true = sym c.is_numeral.ensures ∙ c.if-is_numeral.true in
     let in_range : (48 ≤ b) × (b < 58) = numeral_range b digit in
     let more = numerals_digit s c.loop-i.i (omega arith) digit in
     let h = rw more at c.loop-i.invariant.1 in
+    -- what the digits make with it, and that it is below 2^64 or not, as the tests tell
     let next = 10 * c.loop-i.value + (b - 48) in (
       omega (arith, ap length more),
       elim c.if-value-lt-TENTH.branch [
@@ -46,6 +48,7 @@ returns-then-fits c =
       | then-loop-i-test+else-is_numeral w ↦ numerals_other s i w.loop-i-test.true (sym w.is_numeral.ensures ∙ w.if-is_numeral.false)
       | else-loop-i-test w ↦ numerals_end s i w.loop-i-test.false
     ] in
+    -- and the place at hand is behind the last
     let all_come : i ≡ c.args.at + length (numerals (drop c.args.at s)) = omega (arith, ap length none_left, c.loop-i.invariant.0) in
     in_good _ _ _ all_come _ (rw (c.if-fits.true, none_left) at c.loop-i.invariant.1) c.if-i-at.true
 

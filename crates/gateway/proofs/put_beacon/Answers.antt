@@ -11,12 +11,11 @@ use Rattle.time_slots.specs.TimeSlots.{slot_count_in, time_slots_length_in}
 use Rattle.gateway.proofs.BeaconRewriting.{BeaconAccepted, beacon_accepted_lem, beacon_copied, listed_cleared}
 use Rattle.gateway.proofs.put_beacon.Goals as goal
 
--- back to the from behind the copy, and to slice_bounds-copy-end from behind the clearing of the clear_slots-requires
-
 pub slice_bounds-copy-end : goal.slice_bounds-copy-end
 slice_bounds-copy-end c =
+    -- what is asked, and what it says of the bytes
     let asked : (let a = c.args in BeaconAccepted a.content.now (length a.out.now) a.n) = let a = c.args in beacon_accepted_lem a.content.now (length a.out.now) a.n c.requires in
-    sym (length-take-le _ _ (asked).within)
+    sym (length-take-le _ _ asked.within)
 
 pub clear_slots-requires : goal.clear_slots-requires
 clear_slots-requires c =

@@ -22,16 +22,17 @@ cleared_copy s out n e h =
 
 pub control-requires : goal.control-requires
 control-requires c =
+    -- what is asked, and what it says of the bytes
     let asked : (let a = c.args in AcceptedAgain a.frame.now (length a.out.now) a.n) = let a = c.args in rewrite_accepted a.frame.now (length a.out.now) a.n c.requires in
-    let read : (let a = c.args in Accepted a.frame.now a.n) = let a = c.args in read_accepted a.frame.now a.n (asked).read in
+    let read : (let a = c.args in Accepted a.frame.now a.n) = let a = c.args in read_accepted a.frame.now a.n asked.read in
     let q = read in omega (arith, q.within, q.three)
 
 pub clear_header-requires : goal.clear_header-requires
 clear_header-requires c =
     let asked : (let a = c.args in AcceptedAgain a.frame.now (length a.out.now) a.n) = let a = c.args in rewrite_accepted a.frame.now (length a.out.now) a.n c.requires in
-    let read : (let a = c.args in Accepted a.frame.now a.n) = let a = c.args in read_accepted a.frame.now a.n (asked).read in
+    let read : (let a = c.args in Accepted a.frame.now a.n) = let a = c.args in read_accepted a.frame.now a.n asked.read in
     let q = read in
-    let fits = (asked).fits in record {
+    let fits = asked.fits in record {
       in_bounds = omega (arith, q.three, fits);
       w_in_bounds = rw c.control.ensures (λ on. omega (arith, q.secured on, fits));
     }
@@ -39,13 +40,13 @@ clear_header-requires c =
 pub returns : goal.returns
 returns c =
     let asked : (let a = c.args in AcceptedAgain a.frame.now (length a.out.now) a.n) = let a = c.args in rewrite_accepted a.frame.now (length a.out.now) a.n c.requires in
-    let read : (let a = c.args in Accepted a.frame.now a.n) = let a = c.args in read_accepted a.frame.now a.n (asked).read in
+    let read : (let a = c.args in Accepted a.frame.now a.n) = let a = c.args in read_accepted a.frame.now a.n asked.read in
     let a = c.args in
     let q = asked in
     c.clear_header.ensures
     ∙ (λ i. cleared_by (c.control.ensures i) (c.copy.ensures.out_after i))
     ∙ ap (cleared_by (number a.frame.now 0 2))
-    (copied_front a.frame.now a.out.now a.n (read).within q.fits)
+    (copied_front a.frame.now a.out.now a.n read.within q.fits)
     ∙ cleared_copy a.frame.now a.out.now a.n q.read q.fits
 
 pub slice_bounds-copy-end : goal.slice_bounds-copy-end

@@ -20,26 +20,28 @@ returns-then-measured-ne0 c =
 
 pub returns-then-room-lt3 : goal.returns-then-room-lt3
 returns-then-room-lt3 c =
+    -- the frame, and the length that measuring tells of it
     let frame : List ℕ = c.args.frame.now in
     let size : ℕ = c.measure_header-measured.result.length in
-    let accepts : measured (frame) ≡ accepted (size) = sym c.measure_header-measured.ensures ∙ accepted_of _ c.if-measured-ne0.false in
-    let again : (room : ℕ) → (w : ℕ) → w ≡ number (frame) 0 2 → answered (room_tests w (size) room) (size) ≡ rewrite_header (frame) room = λ room w e. ap (λ (w : ℕ). answered (room_tests w (size) room) (size)) e ∙ sym (rewrite_read (frame) room (size) (accepts)) in
+    let accepts : measured frame ≡ accepted size = sym c.measure_header-measured.ensures ∙ accepted_of _ c.if-measured-ne0.false in
+    -- where measuring accepts, rewriting answers what writing does, by the frame control
+    let again : (room : ℕ) → (w : ℕ) → w ≡ number frame 0 2 → answered (room_tests w size room) size ≡ rewrite_header frame room = λ room w e. ap (λ (w : ℕ). answered (room_tests w size room) size) e ∙ sym (rewrite_read frame room size accepts) in
     rw (← again _ _ refl) (simp (c.refused.ensures, lt-ltb _ _ c.if-room-lt3.true))
 
 pub control-requires : goal.control-requires
 control-requires c =
     let frame : List ℕ = c.args.frame.now in
     let size : ℕ = c.measure_header-measured.result.length in
-    let accepts : measured (frame) ≡ accepted (size) = sym c.measure_header-measured.ensures ∙ accepted_of _ c.if-measured-ne0.false in
-    let q = read_accepted (frame) (size) (accepts) in
+    let accepts : measured frame ≡ accepted size = sym c.measure_header-measured.ensures ∙ accepted_of _ c.if-measured-ne0.false in
+    let q = read_accepted frame size accepts in
     omega (arith, q.within, q.three)
 
 pub returns-then-sourceless : goal.returns-then-sourceless
 returns-then-sourceless c =
     let frame : List ℕ = c.args.frame.now in
     let size : ℕ = c.measure_header-measured.result.length in
-    let accepts : measured (frame) ≡ accepted (size) = sym c.measure_header-measured.ensures ∙ accepted_of _ c.if-measured-ne0.false in
-    let again : (room : ℕ) → (w : ℕ) → w ≡ number (frame) 0 2 → answered (room_tests w (size) room) (size) ≡ rewrite_header (frame) room = λ room w e. ap (λ (w : ℕ). answered (room_tests w (size) room) (size)) e ∙ sym (rewrite_read (frame) room (size) (accepts)) in
+    let accepts : measured frame ≡ accepted size = sym c.measure_header-measured.ensures ∙ accepted_of _ c.if-measured-ne0.false in
+    let again : (room : ℕ) → (w : ℕ) → w ≡ number frame 0 2 → answered (room_tests w size room) size ≡ rewrite_header frame room = λ room w e. ap (λ (w : ℕ). answered (room_tests w size room) size) e ∙ sym (rewrite_read frame room size accepts) in
     rw (← again _ _ c.control.ensures)
     (simp (c.refused-then-sourceless.ensures, le-ltb _ _ c.if-room-lt3.false, sym c.sourceless.ensures ∙ c.if-sourceless.true))
 
@@ -47,8 +49,8 @@ pub returns-then-room-measured : goal.returns-then-room-measured
 returns-then-room-measured c =
     let frame : List ℕ = c.args.frame.now in
     let size : ℕ = c.measure_header-measured.result.length in
-    let accepts : measured (frame) ≡ accepted (size) = sym c.measure_header-measured.ensures ∙ accepted_of _ c.if-measured-ne0.false in
-    let again : (room : ℕ) → (w : ℕ) → w ≡ number (frame) 0 2 → answered (room_tests w (size) room) (size) ≡ rewrite_header (frame) room = λ room w e. ap (λ (w : ℕ). answered (room_tests w (size) room) (size)) e ∙ sym (rewrite_read (frame) room (size) (accepts)) in
+    let accepts : measured frame ≡ accepted size = sym c.measure_header-measured.ensures ∙ accepted_of _ c.if-measured-ne0.false in
+    let again : (room : ℕ) → (w : ℕ) → w ≡ number frame 0 2 → answered (room_tests w size room) size ≡ rewrite_header frame room = λ room w e. ap (λ (w : ℕ). answered (room_tests w size room) size) e ∙ sym (rewrite_read frame room size accepts) in
     rw (← again _ _ c.control.ensures)
     (simp (
       c.refused-then-room-measured.ensures,
@@ -61,8 +63,8 @@ pub returns : goal.returns
 returns c =
     let frame : List ℕ = c.args.frame.now in
     let size : ℕ = c.measure_header-measured.result.length in
-    let accepts : measured (frame) ≡ accepted (size) = sym c.measure_header-measured.ensures ∙ accepted_of _ c.if-measured-ne0.false in
-    let again : (room : ℕ) → (w : ℕ) → w ≡ number (frame) 0 2 → answered (room_tests w (size) room) (size) ≡ rewrite_header (frame) room = λ room w e. ap (λ (w : ℕ). answered (room_tests w (size) room) (size)) e ∙ sym (rewrite_read (frame) room (size) (accepts)) in
+    let accepts : measured frame ≡ accepted size = sym c.measure_header-measured.ensures ∙ accepted_of _ c.if-measured-ne0.false in
+    let again : (room : ℕ) → (w : ℕ) → w ≡ number frame 0 2 → answered (room_tests w size room) size ≡ rewrite_header frame room = λ room w e. ap (λ (w : ℕ). answered (room_tests w size room) size) e ∙ sym (rewrite_read frame room size accepts) in
     rw (← again _ _ c.control.ensures)
     (simp (
       le-ltb _ _ c.if-room-lt3.false,

@@ -20,10 +20,12 @@ returns-then-s-lt3 c = simp (c.refused.ensures, lt-ltb _ _ c.if-s-lt3.true)
 pub returns-then-w-eq3 : goal.returns-then-w-eq3
 unfolding measured
 returns-then-w-eq3 c =
+    -- what the tests on the frame control answer, the first k of them left out
     let from : ℕ → Outcome =
     λ k. let s = c.args.s.now in
     let w = c.u16_at-w.result in
     answered (drop k (read_tests s w)) (header_end s w) in
+    -- what all of them answer
     let read : Outcome = measured c.args.s.now in
     let three_there : from 1 ≡ read =
     let s = c.args.s.now in

@@ -17,6 +17,7 @@ use Rattle.header_parts.proofs.write_answer.Goals as goal
 pub returns-then-kept-parts_length : goal.returns-then-kept-parts_length
 unfolding write_parts
 returns-then-kept-parts_length c =
+    -- the length of the parts
     let long : ℕ = let a = c.args in parts_length a.compress a.destination a.source a.security in
     simp (ne_eqb _ _ (λ (z : c.args.kept ≡ long). c.if-kept-parts_length.true (z ∙ sym c.parts_length.ensures.value)))
 
@@ -24,12 +25,14 @@ pub returns-then-too_large : goal.returns-then-too_large
 unfolding write_parts
 returns-then-too_large c =
     let long : ℕ = let a = c.args in parts_length a.compress a.destination a.source a.security in
+    -- what the tests answer, the first k of them left out
     let from : ℕ → HeaderWritten =
     λ k. let a = c.args in
     first (drop k (write_tests a.kept a.compress a.destination a.source a.security a.counter a.room))
-    (Written (long)) in
+    (Written long) in
+    -- behind the first test the kept length is that of the parts
     let right : c.args.kept ≡ long = omega (arith, c.if-kept-parts_length.false, c.parts_length.ensures.value) in
-    let length_passed : from 1 ≡ from 0 = simp (eq-eqb _ _ (right)) in
+    let length_passed : from 1 ≡ from 0 = simp (eq-eqb _ _ right) in
     rw (← length_passed) (simp (sym c.too_large.ensures ∙ c.if-too_large.true))
 
 pub returns-then-room-lt3 : goal.returns-then-room-lt3
@@ -39,9 +42,9 @@ returns-then-room-lt3 c =
     let from : ℕ → HeaderWritten =
     λ k. let a = c.args in
     first (drop k (write_tests a.kept a.compress a.destination a.source a.security a.counter a.room))
-    (Written (long)) in
+    (Written long) in
     let right : c.args.kept ≡ long = omega (arith, c.if-kept-parts_length.false, c.parts_length.ensures.value) in
-    let length_passed : from 1 ≡ from 0 = simp (eq-eqb _ _ (right)) in
+    let length_passed : from 1 ≡ from 0 = simp (eq-eqb _ _ right) in
     let level_passed : from 2 ≡ from 0 =
     let here : from 2 ≡ from 1 = simp (sym c.too_large.ensures ∙ c.if-too_large.false) in
     here ∙ length_passed in
@@ -54,9 +57,9 @@ returns-then-lack_address c =
     let from : ℕ → HeaderWritten =
     λ k. let a = c.args in
     first (drop k (write_tests a.kept a.compress a.destination a.source a.security a.counter a.room))
-    (Written (long)) in
+    (Written long) in
     let right : c.args.kept ≡ long = omega (arith, c.if-kept-parts_length.false, c.parts_length.ensures.value) in
-    let length_passed : from 1 ≡ from 0 = simp (eq-eqb _ _ (right)) in
+    let length_passed : from 1 ≡ from 0 = simp (eq-eqb _ _ right) in
     let level_passed : from 2 ≡ from 0 =
     let here : from 2 ≡ from 1 = simp (sym c.too_large.ensures ∙ c.if-too_large.false) in
     here ∙ length_passed in
@@ -72,9 +75,9 @@ returns-then-room-addresses_end c =
     let from : ℕ → HeaderWritten =
     λ k. let a = c.args in
     first (drop k (write_tests a.kept a.compress a.destination a.source a.security a.counter a.room))
-    (Written (long)) in
+    (Written long) in
     let right : c.args.kept ≡ long = omega (arith, c.if-kept-parts_length.false, c.parts_length.ensures.value) in
-    let length_passed : from 1 ≡ from 0 = simp (eq-eqb _ _ (right)) in
+    let length_passed : from 1 ≡ from 0 = simp (eq-eqb _ _ right) in
     let level_passed : from 2 ≡ from 0 =
     let here : from 2 ≡ from 1 = simp (sym c.too_large.ensures ∙ c.if-too_large.false) in
     here ∙ length_passed in
@@ -93,9 +96,9 @@ returns-then-lacks_counter c =
     let from : ℕ → HeaderWritten =
     λ k. let a = c.args in
     first (drop k (write_tests a.kept a.compress a.destination a.source a.security a.counter a.room))
-    (Written (long)) in
+    (Written long) in
     let right : c.args.kept ≡ long = omega (arith, c.if-kept-parts_length.false, c.parts_length.ensures.value) in
-    let length_passed : from 1 ≡ from 0 = simp (eq-eqb _ _ (right)) in
+    let length_passed : from 1 ≡ from 0 = simp (eq-eqb _ _ right) in
     let level_passed : from 2 ≡ from 0 =
     let here : from 2 ≡ from 1 = simp (sym c.too_large.ensures ∙ c.if-too_large.false) in
     here ∙ length_passed in
@@ -117,9 +120,9 @@ returns-then-room-kept c =
     let from : ℕ → HeaderWritten =
     λ k. let a = c.args in
     first (drop k (write_tests a.kept a.compress a.destination a.source a.security a.counter a.room))
-    (Written (long)) in
+    (Written long) in
     let right : c.args.kept ≡ long = omega (arith, c.if-kept-parts_length.false, c.parts_length.ensures.value) in
-    let length_passed : from 1 ≡ from 0 = simp (eq-eqb _ _ (right)) in
+    let length_passed : from 1 ≡ from 0 = simp (eq-eqb _ _ right) in
     let level_passed : from 2 ≡ from 0 =
     let here : from 2 ≡ from 1 = simp (sym c.too_large.ensures ∙ c.if-too_large.false) in
     here ∙ length_passed in
@@ -135,8 +138,9 @@ returns-then-room-kept c =
     let counter_passed : from 6 ≡ from 0 =
     let here : from 6 ≡ from 5 = simp (sym c.lacks_counter.ensures ∙ c.if-lacks_counter.false) in
     here ∙ addresses_passed in
+    -- the kept length where it is asked for
     let told : c.args.kept ≡ long = right in
-    let short : ltb c.args.room (long) ≡ true = ap (ltb c.args.room) (sym (told)) ∙ lt-ltb _ _ c.if-room-kept.true in
+    let short : ltb c.args.room long ≡ true = ap (ltb c.args.room) (sym told) ∙ lt-ltb _ _ c.if-room-kept.true in
     rw (← counter_passed) (simp short)
 
 pub returns : goal.returns
@@ -146,9 +150,9 @@ returns c =
     let from : ℕ → HeaderWritten =
     λ k. let a = c.args in
     first (drop k (write_tests a.kept a.compress a.destination a.source a.security a.counter a.room))
-    (Written (long)) in
+    (Written long) in
     let right : c.args.kept ≡ long = omega (arith, c.if-kept-parts_length.false, c.parts_length.ensures.value) in
-    let length_passed : from 1 ≡ from 0 = simp (eq-eqb _ _ (right)) in
+    let length_passed : from 1 ≡ from 0 = simp (eq-eqb _ _ right) in
     let level_passed : from 2 ≡ from 0 =
     let here : from 2 ≡ from 1 = simp (sym c.too_large.ensures ∙ c.if-too_large.false) in
     here ∙ length_passed in
@@ -165,5 +169,5 @@ returns c =
     let here : from 6 ≡ from 5 = simp (sym c.lacks_counter.ensures ∙ c.if-lacks_counter.false) in
     here ∙ addresses_passed in
     let told : c.args.kept ≡ long = right in
-    let enough : ltb c.args.room (long) ≡ false = ap (ltb c.args.room) (sym (told)) ∙ le-ltb _ _ c.if-room-kept.false in
-    rw (← counter_passed) (simp enough (ap Written (told)))
+    let enough : ltb c.args.room long ≡ false = ap (ltb c.args.room) (sym told) ∙ le-ltb _ _ c.if-room-kept.false in
+    rw (← counter_passed) (simp enough (ap Written told))

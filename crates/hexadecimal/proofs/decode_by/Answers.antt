@@ -58,6 +58,7 @@ returns c =
 
 pub overflow_cast-high : goal.overflow_cast-high
 overflow_cast-high c =
+    -- the two bytes at hand are bytes
     let high_byte : (let a = c.args in get_or a.s.now (a.at + 2 * c.loop-n.n) 0 < 256) =
     let a = c.args in
     omega (arith, c.type_inv.s (a.at + 2 * c.loop-n.n)) in

@@ -21,12 +21,13 @@ returns-then-line-gt-LINE_MOST c =
 
 pub returns : goal.returns
 returns c =
+    -- the label ends within the line, or with it
     let tab_at : c.find-tab.result ≡ length (label c.args.line.now) = omega (arith, c.find-tab.ensures) in
     let a = c.args in
     let n = length a.frame.now in
     let h : length a.line.now ≤ line_most = omega (arith, c.if-line-gt-LINE_MOST.false) in record {
-      value = part_short a.values.now a.line.now n c.find-tab.result (tab_at) h c.decode_by-count.result c.decode_by-count.ensures.value;
-      frame_after = c.decode_by-count.ensures.out_after ∙ ap (laid a.frame.now 0) (frame_short a.values.now a.line.now n c.find-tab.result (tab_at) h);
+      value = part_short a.values.now a.line.now n c.find-tab.result tab_at h c.decode_by-count.result c.decode_by-count.ensures.value;
+      frame_after = c.decode_by-count.ensures.out_after ∙ ap (laid a.frame.now 0) (frame_short a.values.now a.line.now n c.find-tab.result tab_at h);
     }
 
 pub overflow_add-tab : goal.overflow_add-tab
@@ -43,6 +44,7 @@ overflow_add-result c =
 
 pub overflow_mul-result : goal.overflow_mul-result
 overflow_mul-result c =
+    -- the bytes are no more than the line
     let few : 2 * c.decode_by-count.result ≤ length c.args.line.now =
     let a = c.args in
     omega (arith, c.decode_by-count.ensures.value, frame_within a.values.now a.line.now (c.find-tab.result + 1) (length a.frame.now)) in

@@ -41,5 +41,6 @@ returns c =
 
 pub slice_bounds-copy-end : goal.slice_bounds-copy-end
 slice_bounds-copy-end c =
+    -- the last digit is stored, and all of them stand from there on
     let long : 20 ≤ length (set c.loop-rest.digits (c.loop-rest.from - 1) (48 + c.loop-rest.rest)) = omega (arith, length-set c.loop-rest.digits (c.loop-rest.from - 1) (48 + c.loop-rest.rest), c.loop-rest.invariant.3) in
     long

@@ -21,9 +21,10 @@ feed_lines-end-requires c =
 
 pub returns-then-not-takes : goal.returns-then-not-takes
 returns-then-not-takes c =
+    -- what the test tells
     let refused : (let a = c.args in takes (length a.chunk.now) (length a.line.now) a.n (length a.out.now) ≡ false) = sym c.takes.ensures ∙ not-true _ c.if-not-takes.true-raw in
     let a = c.args in
-    let s = fed_refused a.chunk.now a.line.now a.n a.out.now (refused) in record {
+    let s = fed_refused a.chunk.now a.line.now a.n a.out.now refused in record {
       value = s.0;
       line_after = s.1.0;
       out_after = s.1.1;
@@ -35,7 +36,7 @@ returns c =
     let taken : (let a = c.args in takes (length a.chunk.now) (length a.line.now) a.n (length a.out.now) ≡ true) = sym c.takes.ensures ∙ not-false _ c.if-not-takes.false-raw in
     let a = c.args in
     let s = fed_taken a.chunk.now a.line.now a.n a.out.now _ _ c.feed_lines-end.result.n c.feed_lines-end.result.used
-    (taken) c.feed_lines-end.ensures.line_after (c.feed_lines-end.auto.line ∙ line_long _ _ _ _ (taken)) c.feed_lines-end.ensures.n_le_kept_most_2 in record {
+    taken c.feed_lines-end.ensures.line_after (c.feed_lines-end.auto.line ∙ line_long _ _ _ _ taken) c.feed_lines-end.ensures.n_le_kept_most_2 in record {
       value = s.0;
       line_after = c.blank.ensures ∙ s.1.0;
       out_after = s.1.1;

@@ -32,10 +32,11 @@ returns-then-n-left c =
 
 pub put_answer-requires : goal.put_answer-requires
 put_answer-requires c =
+    -- the line is as long as it is said to be, and there is room for its answer
     let long : (let a = c.args in length (take a.n a.line.now) ≡ a.n) = length-take-le _ _ c.if-n-line.false in
     let there : (let a = c.args in (0 < a.n) × (a.n + 5 ≤ length a.out.now)) = (omega (arith, c.if-n-eq0.false), omega (arith, c.if-n-eq0.false, c.if-n-left.false, c.left.ensures)) in
     record {
-      line_in_bounds = omega (arith, long, (there).1);
+      line_in_bounds = omega (arith, long, there.1);
       values_value = c.values-values.ensures;
     }
 
@@ -44,11 +45,11 @@ returns c =
     let long : (let a = c.args in length (take a.n a.line.now) ≡ a.n) = length-take-le _ _ c.if-n-line.false in
     let there : (let a = c.args in (0 < a.n) × (a.n + 5 ≤ length a.out.now)) = (omega (arith, c.if-n-eq0.false), omega (arith, c.if-n-eq0.false, c.if-n-left.false, c.left.ensures)) in
     record {
-      stored = same (ending_some _ _ _ c.if-n-line.false (there).1 (there).0) c.put_answer.ensures.stored;
-      upper_bound = omega (arith, c.put_answer.ensures.upper_bound, long, (there).1);
+      stored = same (ending_some _ _ _ c.if-n-line.false there.1 there.0) c.put_answer.ensures.stored;
+      upper_bound = omega (arith, c.put_answer.ensures.upper_bound, long, there.1);
     }
 
 pub slice_bounds-put_answer-end : goal.slice_bounds-put_answer-end
 slice_bounds-put_answer-end c =
     let long : (let a = c.args in length (take a.n a.line.now) ≡ a.n) = length-take-le _ _ c.if-n-line.false in
-    sym (long)
+    sym long

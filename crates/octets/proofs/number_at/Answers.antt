@@ -9,7 +9,7 @@ use Rattle.octets.specs.Little.{number}
 use Rattle.octets.proofs.Little.{bytes_known, number_none, number_one, number_next, number_within}
 use Rattle.octets.proofs.number_at.Goals as goal
 
--- one loop-i-preserved
+-- one turn
 step : (s : List ℕ) (at n i v : ℕ) → i < n → v ≡ number s (at + (n - i)) i →
     get_or s (at + (n - (i + 1))) 0 + 256 * v ≡ number s (at + (n - (i + 1))) (i + 1)
 step s at n i v l e =

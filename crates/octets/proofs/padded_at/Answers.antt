@@ -8,7 +8,7 @@ use Rattle.octets.specs.Little.{number}
 use Rattle.octets.proofs.Little.{bytes_known, number_none, number_next, number_behind, number_within}
 use Rattle.octets.proofs.padded_at.Goals as goal
 
--- one loop-i-preserved
+-- one turn
 step : (s : List ℕ) (at i v b : ℕ) → 0 < i → i ≤ 8 → v ≡ number s (at + i) (8 - i) → b ≡ number s (at + (i - 1)) 1 →
     256 * v + b ≡ number s (at + (i - 1)) (8 - (i - 1))
 step s at i v b p l e d =

@@ -35,6 +35,7 @@ returns-then-whole-ne0 c =
 
 pub returns-then-control_unseen : goal.returns-then-control_unseen
 returns-then-control_unseen c =
+    -- where the array is accepted: what is needed by whether the security control is seen
     let needs_by : (let a = c.args in needed (take a.count a.bytes.now) ≡ cond c.control_unseen.result (source_end c.u16_at-w.result + 1) c.measure_header-whole.result.length) =
     accepted_needs c.args.bytes.now c.args.count c.requires.bytes_len c.if-count-lt3.false c.requires.count_le_header_most
     (sym (ap (λ (o : Outcome). o.number) c.measure_header-whole.ensures) ∙ c.if-whole-ne0.false)

@@ -19,8 +19,9 @@ returns-then-not-fits c =
 
 pub row_of-i-requires : goal.row_of-i-requires
 row_of-i-requires c =
+    -- the table and the rows in use are such
     let fit : (let a = c.args in fits a.table.now a.rows ≡ true) = sym c.fits.ensures ∙ not-false _ c.if-not-fits.false-raw in
-    let parts : (let a = c.args in (length a.table.now ≡ table_length) × (a.rows ≤ senders_most)) = let a = c.args in fits_parts a.table.now a.rows (fit) in
+    let parts : (let a = c.args in (length a.table.now ≡ table_length) × (a.rows ≤ senders_most)) = let a = c.args in fits_parts a.table.now a.rows fit in
     let p = parts in record {
       n_le_senders_most = p.1;
       table_len = p.0;
@@ -29,7 +30,7 @@ row_of-i-requires c =
 pub row_in-c-requires : goal.row_in-c-requires
 row_in-c-requires c =
     let fit : (let a = c.args in fits a.table.now a.rows ≡ true) = sym c.fits.ensures ∙ not-false _ c.if-not-fits.false-raw in
-    let parts : (let a = c.args in (length a.table.now ≡ table_length) × (a.rows ≤ senders_most)) = let a = c.args in fits_parts a.table.now a.rows (fit) in
+    let parts : (let a = c.args in (length a.table.now ≡ table_length) × (a.rows ≤ senders_most)) = let a = c.args in fits_parts a.table.now a.rows fit in
     let p = parts in record {
       i_lt_senders_most = omega (arith, c.if-i-rows.true, p.1);
       table_len = p.0;
@@ -51,7 +52,7 @@ again-requires c = goes_on_lem _ (sym c.can_go_on.ensures ∙ not-false _ c.if-n
 pub put_row-requires : goal.put_row-requires
 put_row-requires c =
     let fit : (let a = c.args in fits a.table.now a.rows ≡ true) = sym c.fits.ensures ∙ not-false _ c.if-not-fits.false-raw in
-    let parts : (let a = c.args in (length a.table.now ≡ table_length) × (a.rows ≤ senders_most)) = let a = c.args in fits_parts a.table.now a.rows (fit) in
+    let parts : (let a = c.args in (length a.table.now ≡ table_length) × (a.rows ≤ senders_most)) = let a = c.args in fits_parts a.table.now a.rows fit in
     let p = parts in record {
       i_lt_senders_most = omega (arith, c.if-i-rows.true, p.1);
       table_len = p.0;
@@ -62,7 +63,7 @@ returns-then-i-rows c =
     let fit : (let a = c.args in fits a.table.now a.rows ≡ true) = sym c.fits.ensures ∙ not-false _ c.if-not-fits.false-raw in
     let a = c.args in
     let both = heard_known a.table.now a.rows a.who a.number c.row_of-i.result c.row_of-i.ensures c.row_in-c.result c.again.result _
-    (fit) c.if-i-rows.true c.row_in-c.ensures (sym c.can_go_on.ensures ∙ not-false _ c.if-not-can_go_on.false-raw) c.again.ensures c.put_row.ensures in record {
+    fit c.if-i-rows.true c.row_in-c.ensures (sym c.can_go_on.ensures ∙ not-false _ c.if-not-can_go_on.false-raw) c.again.ensures c.put_row.ensures in record {
       table_after = both.0;
       rows_value = both.1.0;
       counted_value = both.1.1;
@@ -71,17 +72,17 @@ returns-then-i-rows c =
 pub put_row-requires-then-rows-lt-SENDERS_MOST : goal.put_row-requires-then-rows-lt-SENDERS_MOST
 put_row-requires-then-rows-lt-SENDERS_MOST c =
     let fit : (let a = c.args in fits a.table.now a.rows ≡ true) = sym c.fits.ensures ∙ not-false _ c.if-not-fits.false-raw in
-    let parts : (let a = c.args in (length a.table.now ≡ table_length) × (a.rows ≤ senders_most)) = let a = c.args in fits_parts a.table.now a.rows (fit) in
+    let parts : (let a = c.args in (length a.table.now ≡ table_length) × (a.rows ≤ senders_most)) = let a = c.args in fits_parts a.table.now a.rows fit in
     record {
       i_lt_senders_most = omega (arith, c.if-rows-lt-SENDERS_MOST.true);
-      table_len = (parts).0;
+      table_len = parts.0;
     }
 
 pub returns-then-rows-lt-SENDERS_MOST : goal.returns-then-rows-lt-SENDERS_MOST
 returns-then-rows-lt-SENDERS_MOST c =
     let fit : (let a = c.args in fits a.table.now a.rows ≡ true) = sym c.fits.ensures ∙ not-false _ c.if-not-fits.false-raw in
     let a = c.args in
-    let both = heard_new a.table.now a.rows a.who a.number c.row_of-i.result c.row_of-i.ensures _ (fit) c.if-i-rows.false
+    let both = heard_new a.table.now a.rows a.who a.number c.row_of-i.result c.row_of-i.ensures _ fit c.if-i-rows.false
     (omega (arith, c.if-rows-lt-SENDERS_MOST.true)) (c.put_row-then-rows-lt-SENDERS_MOST.ensures ∙ ap (λ (k : Counted). row_set a.table.now a.rows k) c.first.ensures) in record {
       table_after = both.0;
       rows_value = both.1.0;

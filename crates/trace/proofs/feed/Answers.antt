@@ -32,7 +32,7 @@ tell-told-requires c =
       used_in_bounds = omega (arith, c.find_next-found.ensures.onward.later, c.find_next-found.ensures.onward.within, c.loop-at.invariant.7, c.loop-at.invariant.3, c.requires.chunk_in_bounds);
     }
 
--- a line has ended and was loop-at-preserved-then-found
+-- a line has ended and was told
 pub loop-at-preserved-then-found : goal.loop-at-preserved-then-found
 loop-at-preserved-then-found c =
     let a = c.args in (

@@ -18,7 +18,7 @@ returns-then-taken c =
     let line : (let a = c.args in Cut a.chunk.now a.at a.line.now a.n c.cut-taken.result c.cut-taken.new.line) = cutting _ _ _ _ _ _ (c.cut-taken.ensures.value, c.cut-taken.ensures.line_after) c.requires.n_le_kept_most c.requires.line_len c.requires.at_in_bounds in
     let a = c.args in
     record {
-      onward = ((line).answered c.if-taken.true (λ l. []) (λ l. refl) [] [] 0 0 (none [] 0)).1;
+      onward = (line.answered c.if-taken.true (λ l. []) (λ l. refl) [] [] 0 0 (none [] 0)).1;
       spoken = c.say_line-said.ensures.spoken;
       empty = λ e. refl;
       ends = λ e. cut_ends a.chunk.now a.at a.line.now a.n c.cut-taken.result _ (c.cut-taken.ensures.value, c.cut-taken.ensures.line_after) c.requires.n_le_kept_most c.requires.line_len c.requires.at_in_bounds c.say_line-said.result
@@ -31,7 +31,7 @@ returns c =
     let line : (let a = c.args in Cut a.chunk.now a.at a.line.now a.n c.cut-taken.result c.cut-taken.new.line) = cutting _ _ _ _ _ _ (c.cut-taken.ensures.value, c.cut-taken.ensures.line_after) c.requires.n_le_kept_most c.requires.line_len c.requires.at_in_bounds in
     let a = c.args in
     record {
-      onward = ((line).goes c.if-taken.false (λ l. []) [] 0).1;
+      onward = (line.goes c.if-taken.false (λ l. []) [] 0).1;
       spoken = tt;
       empty = λ e. absurd (false≢true e);
       ends = λ e. absurd (false≢true e);
@@ -42,11 +42,12 @@ returns c =
 pub slice_bounds-say_line-end : goal.slice_bounds-say_line-end
 slice_bounds-say_line-end c =
     let line : (let a = c.args in Cut a.chunk.now a.at a.line.now a.n c.cut-taken.result c.cut-taken.new.line) = cutting _ _ _ _ _ _ (c.cut-taken.ensures.value, c.cut-taken.ensures.line_after) c.requires.n_le_kept_most c.requires.line_len c.requires.at_in_bounds in
-    let within : c.cut-taken.result.n ≤ length c.cut-taken.new.line = omega (arith, (line).small, c.cut-taken.auto.line, c.requires.line_len) in
+    -- the line is within its buffer
+    let within : c.cut-taken.result.n ≤ length c.cut-taken.new.line = omega (arith, line.small, c.cut-taken.auto.line, c.requires.line_len) in
     within
 
 pub slice_bounds-say_line-end-then-taken : goal.slice_bounds-say_line-end-then-taken
 slice_bounds-say_line-end-then-taken c =
     let line : (let a = c.args in Cut a.chunk.now a.at a.line.now a.n c.cut-taken.result c.cut-taken.new.line) = cutting _ _ _ _ _ _ (c.cut-taken.ensures.value, c.cut-taken.ensures.line_after) c.requires.n_le_kept_most c.requires.line_len c.requires.at_in_bounds in
-    let within : c.cut-taken.result.n ≤ length c.cut-taken.new.line = omega (arith, (line).small, c.cut-taken.auto.line, c.requires.line_len) in
-    sym (length-take-le _ _ (within))
+    let within : c.cut-taken.result.n ≤ length c.cut-taken.new.line = omega (arith, line.small, c.cut-taken.auto.line, c.requires.line_len) in
+    sym (length-take-le _ _ within)

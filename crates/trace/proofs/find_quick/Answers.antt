@@ -24,15 +24,16 @@ returns c =
       room = c.requires.frame_len;
       parts = (c.part_at-parts.ensures.value, c.part_at-parts.ensures.frame_after);
     } in
+    -- the line feed behind the digits
     let feed_there : is_at c.args.chunk.now c.part_at-parts.result.end 10 ≡ true = sym c.is_at.ensures ∙ not-false _ c.if-not-is_at.false-raw in
     let a = c.args in
-    let k = quick_said _ _ _ _ _ _ (found) (not-false _ c.if-not-parts.false) (feed_there) c.if-parts-at-gt-LINE_MOST.false in record {
+    let k = quick_said _ _ _ _ _ _ found (not-false _ c.if-not-parts.false) feed_there c.if-parts-at-gt-LINE_MOST.false in record {
       spoken = c.say-said.ensures.spoken;
       ends = (λ e. lies a.chunk.now a.at c.part_at-parts.result _ c.say-said.result k c.say-said.ensures.value);
       onward = (λ e. record {
         small = omega arith;
         later = omega (arith, k.begins);
-        within = omega (arith, (there a.chunk.now c.part_at-parts.result.end 10 (feed_there)).0);
+        within = omega (arith, (there a.chunk.now c.part_at-parts.result.end 10 feed_there).0);
       });
       n_value = refl;
     }
@@ -83,4 +84,4 @@ slice_bounds-say-end-2 c =
     let few : c.part_at-parts.result.count ≤ length c.part_at-parts.new.frame =
     let a = c.args in
     omega (arith, count_few a.values.now a.chunk.now a.at 10 (length a.frame.now) c.part_at-parts.result c.part_at-parts.ensures.value, c.part_at-parts.auto.frame) in
-    sym (length-take-le _ _ (few))
+    sym (length-take-le _ _ few)

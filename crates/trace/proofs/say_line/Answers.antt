@@ -17,7 +17,7 @@ pub returns-then-not-parts : goal.returns-then-not-parts
 returns-then-not-parts c =
     let found : Found c.args.values.now c.args.line.now 0 9 c.args.frame.now c.part_at-parts.result c.part_at-parts.new.frame = record { values = c.requires.values_value; bytes = bytes_known c.args.line.now c.type_inv.line; room = c.requires.frame_len; parts = (c.part_at-parts.ensures.value, c.part_at-parts.ensures.frame_after) } in
     record {
-      value = whole_other _ _ _ _ _ (found) c.if-line-gt-LINE_MOST.false (λ g e. true≢false (sym g ∙ not-true _ c.if-not-parts.true));
+      value = whole_other _ _ _ _ _ found c.if-line-gt-LINE_MOST.false (λ g e. true≢false (sym g ∙ not-true _ c.if-not-parts.true));
       spoken = tt;
     }
 
@@ -25,7 +25,7 @@ pub returns-then-parts-line : goal.returns-then-parts-line
 returns-then-parts-line c =
     let found : Found c.args.values.now c.args.line.now 0 9 c.args.frame.now c.part_at-parts.result c.part_at-parts.new.frame = record { values = c.requires.values_value; bytes = bytes_known c.args.line.now c.type_inv.line; room = c.requires.frame_len; parts = (c.part_at-parts.ensures.value, c.part_at-parts.ensures.frame_after) } in
     record {
-      value = whole_other _ _ _ _ _ (found) c.if-line-gt-LINE_MOST.false (λ g e. c.if-parts-line.true e);
+      value = whole_other _ _ _ _ _ found c.if-line-gt-LINE_MOST.false (λ g e. c.if-parts-line.true e);
       spoken = tt;
     }
 
@@ -33,7 +33,7 @@ pub returns : goal.returns
 returns c =
     let found : Found c.args.values.now c.args.line.now 0 9 c.args.frame.now c.part_at-parts.result c.part_at-parts.new.frame = record { values = c.requires.values_value; bytes = bytes_known c.args.line.now c.type_inv.line; room = c.requires.frame_len; parts = (c.part_at-parts.ensures.value, c.part_at-parts.ensures.frame_after) } in
     record {
-      value = c.say.ensures.value ∙ whole_said _ _ _ _ _ (found) c.if-line-gt-LINE_MOST.false (not-false _ c.if-not-parts.false) c.if-parts-line.false;
+      value = c.say.ensures.value ∙ whole_said _ _ _ _ _ found c.if-line-gt-LINE_MOST.false (not-false _ c.if-not-parts.false) c.if-parts-line.false;
       spoken = c.say.ensures.spoken;
     }
 
@@ -56,4 +56,4 @@ slice_bounds-say-end-2 c =
     let few : c.part_at-parts.result.count ≤ length c.part_at-parts.new.frame =
     let a = c.args in
     omega (arith, count_few a.values.now a.line.now 0 9 (length a.frame.now) c.part_at-parts.result c.part_at-parts.ensures.value, c.part_at-parts.auto.frame) in
-    sym (length-take-le _ _ (few))
+    sym (length-take-le _ _ few)

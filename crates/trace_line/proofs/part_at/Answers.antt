@@ -48,7 +48,7 @@ returns c =
     let a = c.args in
     let s = a.s.now in
     let have = has_all s a.at a.stop c.decimal_field-tick.result c.decimal_field-tick.ensures c.find-tab.result c.find-tab.ensures
-    c.decimal_field-size.result c.decimal_field-size.ensures (not-false _ c.if-not-tick.false) (tab_there) (not-false _ c.if-not-size.false) in
+    c.decimal_field-size.result c.decimal_field-size.ensures (not-false _ c.if-not-tick.false) tab_there (not-false _ c.if-not-size.false) in
     let field = size_field s a.at a.stop c.decimal_field-tick.result c.decimal_field-tick.ensures c.find-tab.result c.find-tab.ensures
     c.decimal_field-size.result c.decimal_field-size.ensures in
     let both = parts_all a.values.now s a.at a.stop a.frame.now c.decimal_field-size.result c.decode_by-count.result _ have field
@@ -60,7 +60,7 @@ returns c =
 pub overflow_add-tab : goal.overflow_add-tab
 overflow_add-tab c =
     let tab_there : is_at c.args.s.now c.find-tab.result 9 ≡ true = sym c.is_at.ensures ∙ not-false _ c.if-not-is_at.false-raw in
-    let tab_within : c.find-tab.result < length c.args.s.now = (there c.args.s.now c.find-tab.result 9 (tab_there)).0 in
+    let tab_within : c.find-tab.result < length c.args.s.now = (there c.args.s.now c.find-tab.result 9 tab_there).0 in
     omega (arith, tab_within)
 
 pub overflow_mul-result : goal.overflow_mul-result
@@ -72,6 +72,7 @@ overflow_mul-result c =
 
 pub overflow_add-result : goal.overflow_add-result
 overflow_add-result c =
+    -- the size ends within the slice
     let size_within : c.decimal_field-size.result.end ≤ length c.args.s.now =
     let s = c.args.s.now in
     let e = c.decimal_field-size.ensures in

@@ -17,14 +17,14 @@ returns-then-not-parted c =
     let parted : Apart c.args.line.now c.part-parted.result c.part-parted.new.frame =
     apart _ c.args.line.now _ _ _ c.requires (bytes_known c.args.line.now c.type_inv.line)
     (length-replicate {A = ℕ} 512 0) (c.part-parted.ensures.value, c.part-parted.ensures.frame_after) in
-    same ((parted).other (not-true _ c.if-not-parted.true) said) c.put_bad.ensures
+    same (parted.other (not-true _ c.if-not-parted.true) said) c.put_bad.ensures
 
 pub returns : goal.returns
 returns c =
     let parted : Apart c.args.line.now c.part-parted.result c.part-parted.new.frame =
     apart _ c.args.line.now _ _ _ c.requires (bytes_known c.args.line.now c.type_inv.line)
     (length-replicate {A = ℕ} 512 0) (c.part-parted.ensures.value, c.part-parted.ensures.frame_after) in
-    same ((parted).good (not-false _ c.if-not-parted.false) said)
+    same (parted.good (not-false _ c.if-not-parted.false) said)
     (join (copied _ _ _ (c.copy-next.ensures.value, c.copy-next.ensures.out_after)) c.put_said.ensures)
 
 pub slice_bounds-copy-end : goal.slice_bounds-copy-end
@@ -32,15 +32,16 @@ slice_bounds-copy-end c =
     let parted : Apart c.args.line.now c.part-parted.result c.part-parted.new.frame =
     apart _ c.args.line.now _ _ _ c.requires (bytes_known c.args.line.now c.type_inv.line)
     (length-replicate {A = ℕ} 512 0) (c.part-parted.ensures.value, c.part-parted.ensures.frame_after) in
-    let front : c.part-parted.result.tab ≤ length c.args.line.now = omega (arith, (parted).whole (not-false _ c.if-not-parted.false)) in
-    sym (length-take-le _ _ (front))
+    -- the label is a front of the line, and the frame one of its buffer
+    let front : c.part-parted.result.tab ≤ length c.args.line.now = omega (arith, parted.whole (not-false _ c.if-not-parted.false)) in
+    sym (length-take-le _ _ front)
 
 pub slice_bounds-frame-end : goal.slice_bounds-frame-end
 slice_bounds-frame-end c =
     let parted : Apart c.args.line.now c.part-parted.result c.part-parted.new.frame =
     apart _ c.args.line.now _ _ _ c.requires (bytes_known c.args.line.now c.type_inv.line)
     (length-replicate {A = ℕ} 512 0) (c.part-parted.ensures.value, c.part-parted.ensures.frame_after) in
-    let few : c.part-parted.result.count ≤ length c.part-parted.new.frame = omega (arith, (parted).few, c.part-parted.auto.frame) in
+    let few : c.part-parted.result.count ≤ length c.part-parted.new.frame = omega (arith, parted.few, c.part-parted.auto.frame) in
     few
 
 pub slice_bounds-put_said-end : goal.slice_bounds-put_said-end
@@ -48,5 +49,5 @@ slice_bounds-put_said-end c =
     let parted : Apart c.args.line.now c.part-parted.result c.part-parted.new.frame =
     apart _ c.args.line.now _ _ _ c.requires (bytes_known c.args.line.now c.type_inv.line)
     (length-replicate {A = ℕ} 512 0) (c.part-parted.ensures.value, c.part-parted.ensures.frame_after) in
-    let few : c.part-parted.result.count ≤ length c.part-parted.new.frame = omega (arith, (parted).few, c.part-parted.auto.frame) in
-    sym (length-take-le _ _ (few))
+    let few : c.part-parted.result.count ≤ length c.part-parted.new.frame = omega (arith, parted.few, c.part-parted.auto.frame) in
+    sym (length-take-le _ _ few)

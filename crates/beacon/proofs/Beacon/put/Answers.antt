@@ -41,6 +41,7 @@ returns c =
     let place : at + 2 + c.size.result ≡ at + 2 + time_slots_size x.guaranteed_time_slot_info =
     ap (λ (n : ℕ). at + 2 + n) size in
     let seven_slots : length x.guaranteed_time_slot_info.slots ≡ 7 = search rules in
+    -- each part is stored whole
     let superframe : c.write.new.out ≡ laid c.args.out.now at (superframe_bytes x.superframe_spec) =
     whole_stored c.args.out.now _ at 2 fits.superframe (omega (arith, room)) c.write.ensures.value c.write.ensures.out_after in
     let slots : c.write-2.new.out ≡ laid c.write.new.out (at + 2) (time_slots_bytes x.guaranteed_time_slot_info) =

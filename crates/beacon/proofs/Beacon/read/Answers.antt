@@ -25,6 +25,7 @@ returns-then-superframe-ne0 c = simp (ne_eqb _ 0 (rw c.read-superframe.ensures a
 
 pub overflow_add-at : goal.overflow_add-at
 overflow_add-at c =
+    -- each part that was not refused: what the call gave, what the definition says, and that it was there
     let superframe : (let a = c.args in let part : SuperframeRead = record { outcome = accepted 2; superframe_spec = superframe_in a.s.now a.at } in (c.read-superframe.result ≡ part) × (read_superframe a.s.now a.at ≡ part) × (2 ≤ length a.s.now - a.at)) =
     let there = superframe_read _ _ (ap (λ (r : SuperframeRead). r.outcome.number) (sym c.read-superframe.ensures) ∙ c.if-superframe-ne0.false) in
     (c.read-superframe.ensures ∙ there.0, there.0, there.1) in
@@ -36,7 +37,7 @@ returns-then-slots-ne0 c =
     let superframe : (let a = c.args in let part : SuperframeRead = record { outcome = accepted 2; superframe_spec = superframe_in a.s.now a.at } in (c.read-superframe.result ≡ part) × (read_superframe a.s.now a.at ≡ part) × (2 ≤ length a.s.now - a.at)) =
     let there = superframe_read _ _ (ap (λ (r : SuperframeRead). r.outcome.number) (sym c.read-superframe.ensures) ∙ c.if-superframe-ne0.false) in
     (c.read-superframe.ensures ∙ there.0, there.0, there.1) in
-    simp ((superframe).1, ne_eqb _ 0 (rw c.read-slots.ensures at c.if-slots-ne0.true), c.refused-then-slots-ne0.ensures)
+    simp (superframe.1, ne_eqb _ 0 (rw c.read-slots.ensures at c.if-slots-ne0.true), c.refused-then-slots-ne0.ensures)
 
 pub overflow_add-at-2 : goal.overflow_add-at-2
 overflow_add-at-2 c =
@@ -62,9 +63,9 @@ returns-then-pending-ne0 c =
     let there = time_slots_read _ _ (ap (λ (r : TimeSlotsRead). r.outcome.number) (sym c.read-slots.ensures) ∙ c.if-slots-ne0.false) in
     (c.read-slots.ensures ∙ there.0, there.0, there.1) in
     simp (
-      (superframe).1,
-      (slots).1,
-      ne_eqb _ 0 (rw (rw (slots).0 at c.read-pending.ensures) at c.if-pending-ne0.true),
+      superframe.1,
+      slots.1,
+      ne_eqb _ 0 (rw (rw slots.0 at c.read-pending.ensures) at c.if-pending-ne0.true),
       c.refused-then-pending-ne0.ensures,
     )
 
@@ -73,7 +74,7 @@ overflow_add-length c =
     let slots : (let a = c.args in let place = a.at + 2 in let part : TimeSlotsRead = record { outcome = accepted (time_slots_length_in a.s.now place); guaranteed_time_slot_info = time_slots_in a.s.now place } in (c.read-slots.result ≡ part) × (read_time_slots a.s.now place ≡ part) × (time_slots_length_in a.s.now place ≤ length a.s.now - place)) =
     let there = time_slots_read _ _ (ap (λ (r : TimeSlotsRead). r.outcome.number) (sym c.read-slots.ensures) ∙ c.if-slots-ne0.false) in
     (c.read-slots.ensures ∙ there.0, there.0, there.1) in
-    rw (slots).0 (omega (arith, c.well_formed.0.0, (slots).2))
+    rw slots.0 (omega (arith, c.well_formed.0.0, slots.2))
 
 pub overflow_add-length-2 : goal.overflow_add-length-2
 overflow_add-length-2 c =
@@ -81,10 +82,10 @@ overflow_add-length-2 c =
     let there = time_slots_read _ _ (ap (λ (r : TimeSlotsRead). r.outcome.number) (sym c.read-slots.ensures) ∙ c.if-slots-ne0.false) in
     (c.read-slots.ensures ∙ there.0, there.0, there.1) in
     let pending : (let a = c.args in let place = pending_place a.s.now a.at in let part : PendingRead = record { outcome = accepted (pending_length_in a.s.now place); pending_address = pending_in a.s.now place } in (c.read-pending.result ≡ part) × (read_pending a.s.now place ≡ part) × (pending_length_in a.s.now place ≤ length a.s.now - place)) =
-    let told = rw (slots).0 at c.read-pending.ensures in
+    let told = rw slots.0 at c.read-pending.ensures in
     let there = pending_read _ _ (ap (λ (r : PendingRead). r.outcome.number) (sym told) ∙ c.if-pending-ne0.false) in
     (told ∙ there.0, there.0, there.1) in
-    rw ((slots).0, (pending).0) (omega (arith, c.well_formed.0.0, (slots).2, (pending).2))
+    rw (slots.0, pending.0) (omega (arith, c.well_formed.0.0, slots.2, pending.2))
 
 pub returns : goal.returns
 unfolding beacon_in beacon_length_in read_beacon
@@ -96,16 +97,16 @@ returns c =
     let there = time_slots_read _ _ (ap (λ (r : TimeSlotsRead). r.outcome.number) (sym c.read-slots.ensures) ∙ c.if-slots-ne0.false) in
     (c.read-slots.ensures ∙ there.0, there.0, there.1) in
     let pending : (let a = c.args in let place = pending_place a.s.now a.at in let part : PendingRead = record { outcome = accepted (pending_length_in a.s.now place); pending_address = pending_in a.s.now place } in (c.read-pending.result ≡ part) × (read_pending a.s.now place ≡ part) × (pending_length_in a.s.now place ≤ length a.s.now - place)) =
-    let told = rw (slots).0 at c.read-pending.ensures in
+    let told = rw slots.0 at c.read-pending.ensures in
     let there = pending_read _ _ (ap (λ (r : PendingRead). r.outcome.number) (sym told) ∙ c.if-pending-ne0.false) in
     (told ∙ there.0, there.0, there.1) in
     simp (
       c.accepted.ensures,
       c.joined-beacon.ensures,
-      (superframe).0,
-      (superframe).1,
-      (slots).0,
-      (slots).1,
-      (pending).0,
-      (pending).1,
+      superframe.0,
+      superframe.1,
+      slots.0,
+      slots.1,
+      pending.0,
+      pending.1,
     )

@@ -19,7 +19,7 @@ returns-then-not-parted c =
     let parted : Apart c.args.line.now c.part-parted.result c.part-parted.new.frame =
     apart _ c.args.line.now _ _ _ c.requires.values_value (bytes_known c.args.line.now c.type_inv.line)
     (length-replicate {A = ℕ} 512 0) (c.part-parted.ensures.value, c.part-parted.ensures.frame_after) in
-    let e = (parted).other (not-true _ c.if-not-parted.true) said in record {
+    let e = parted.other (not-true _ c.if-not-parted.true) said in record {
       stored = same e (roomy (omega (arith, bad_length, c.requires.line_in_bounds)) c.put_bad.ensures);
       upper_bound = omega (arith, bad_length, c.put_bad.ensures.next);
     }
@@ -29,10 +29,11 @@ put_good-requires c =
     let parted : Apart c.args.line.now c.part-parted.result c.part-parted.new.frame =
     apart _ c.args.line.now _ _ _ c.requires.values_value (bytes_known c.args.line.now c.type_inv.line)
     (length-replicate {A = ℕ} 512 0) (c.part-parted.ensures.value, c.part-parted.ensures.frame_after) in
+    -- the label is the front of the line
     let whole : (c.part-parted.result.tab + 1 ≤ length c.args.line.now) × (length (take c.part-parted.result.tab c.args.line.now) ≡ c.part-parted.result.tab) =
-    let w = (parted).whole (not-false _ c.if-not-parted.false) in
+    let w = parted.whole (not-false _ c.if-not-parted.false) in
     (omega (arith, w), length-take-le _ _ (omega (arith, w))) in
-    omega (arith, (whole).0, (whole).1, c.requires.line_in_bounds)
+    omega (arith, whole.0, whole.1, c.requires.line_in_bounds)
 
 pub returns : goal.returns
 returns c =
@@ -40,11 +41,11 @@ returns c =
     apart _ c.args.line.now _ _ _ c.requires.values_value (bytes_known c.args.line.now c.type_inv.line)
     (length-replicate {A = ℕ} 512 0) (c.part-parted.ensures.value, c.part-parted.ensures.frame_after) in
     let whole : (c.part-parted.result.tab + 1 ≤ length c.args.line.now) × (length (take c.part-parted.result.tab c.args.line.now) ≡ c.part-parted.result.tab) =
-    let w = (parted).whole (not-false _ c.if-not-parted.false) in
+    let w = parted.whole (not-false _ c.if-not-parted.false) in
     (omega (arith, w), length-take-le _ _ (omega (arith, w))) in
-    let w = (parted).good (not-false _ c.if-not-parted.false) said in record {
+    let w = parted.good (not-false _ c.if-not-parted.false) said in record {
       stored = same w c.put_good.ensures.stored;
-      upper_bound = omega (arith, c.put_good.ensures.upper_bound, (whole).0, (whole).1);
+      upper_bound = omega (arith, c.put_good.ensures.upper_bound, whole.0, whole.1);
     }
 
 pub slice_bounds-put_good-end : goal.slice_bounds-put_good-end
@@ -53,16 +54,17 @@ slice_bounds-put_good-end c =
     apart _ c.args.line.now _ _ _ c.requires.values_value (bytes_known c.args.line.now c.type_inv.line)
     (length-replicate {A = ℕ} 512 0) (c.part-parted.ensures.value, c.part-parted.ensures.frame_after) in
     let whole : (c.part-parted.result.tab + 1 ≤ length c.args.line.now) × (length (take c.part-parted.result.tab c.args.line.now) ≡ c.part-parted.result.tab) =
-    let w = (parted).whole (not-false _ c.if-not-parted.false) in
+    let w = parted.whole (not-false _ c.if-not-parted.false) in
     (omega (arith, w), length-take-le _ _ (omega (arith, w))) in
-    sym (whole).1
+    sym whole.1
 
 pub slice_bounds-frame-end : goal.slice_bounds-frame-end
 slice_bounds-frame-end c =
     let parted : Apart c.args.line.now c.part-parted.result c.part-parted.new.frame =
     apart _ c.args.line.now _ _ _ c.requires.values_value (bytes_known c.args.line.now c.type_inv.line)
     (length-replicate {A = ℕ} 512 0) (c.part-parted.ensures.value, c.part-parted.ensures.frame_after) in
-    let few : c.part-parted.result.count ≤ length c.part-parted.new.frame = omega (arith, (parted).few, c.part-parted.auto.frame) in
+    -- the frame is the front of its buffer
+    let few : c.part-parted.result.count ≤ length c.part-parted.new.frame = omega (arith, parted.few, c.part-parted.auto.frame) in
     few
 
 pub slice_bounds-put_good-end-2 : goal.slice_bounds-put_good-end-2
@@ -70,5 +72,5 @@ slice_bounds-put_good-end-2 c =
     let parted : Apart c.args.line.now c.part-parted.result c.part-parted.new.frame =
     apart _ c.args.line.now _ _ _ c.requires.values_value (bytes_known c.args.line.now c.type_inv.line)
     (length-replicate {A = ℕ} 512 0) (c.part-parted.ensures.value, c.part-parted.ensures.frame_after) in
-    let few : c.part-parted.result.count ≤ length c.part-parted.new.frame = omega (arith, (parted).few, c.part-parted.auto.frame) in
-    sym (length-take-le _ _ (few))
+    let few : c.part-parted.result.count ≤ length c.part-parted.new.frame = omega (arith, parted.few, c.part-parted.auto.frame) in
+    sym (length-take-le _ _ few)

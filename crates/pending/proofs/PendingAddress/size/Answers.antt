@@ -15,6 +15,7 @@ returns-then-too_large c =
 
 pub returns : goal.returns
 returns c =
+    -- the counts behind the test
     let few : (c.args.self.short_address_count ≤ 7) × (c.args.self.extended_address_count ≤ 7) = fitting _ (sym c.too_large.ensures ∙ c.if-too_large.false) in
     record {
       value = simp (sym c.too_large.ensures ∙ c.if-too_large.false);

@@ -26,11 +26,13 @@ loop-count-init c =
 
 pub loop-count-preserved-then-count-awaited : goal.loop-count-preserved-then-count-awaited
 loop-count-preserved-then-count-awaited c =
+    -- a byte of the piece is left
     let inside : c.loop-count.at < length c.args.piece.now = ltb-true _ _ c.if-at-piece.true-raw in
+    -- what is left of it, its first byte apart
     let rest : gathered (reader c.loop-count.bytes c.loop-count.count c.loop-count.awaited) (get_or c.args.piece.now c.loop-count.at 0 ∷ drop (c.loop-count.at + 1) c.args.piece.now) ≡ gathered c.args.self c.args.piece.now =
     let r = reader c.loop-count.bytes c.loop-count.count c.loop-count.awaited in
     ap (λ (i : ℕ). gathered r (get_or c.args.piece.now c.loop-count.at 0 ∷ drop i c.args.piece.now)) (add-one c.loop-count.at)
-    ∙ ap (gathered r) (sym (drop-cons c.args.piece.now c.loop-count.at 0 (inside)))
+    ∙ ap (gathered r) (sym (drop-cons c.args.piece.now c.loop-count.at 0 inside))
     ∙ sym (onward_wants r (drop c.loop-count.at c.args.piece.now) c.loop-count-test.true)
     ∙ c.loop-count.invariant.4 in
     let l = c.loop-count in
@@ -54,7 +56,7 @@ loop-count-preserved c =
     let rest : gathered (reader c.loop-count.bytes c.loop-count.count c.loop-count.awaited) (get_or c.args.piece.now c.loop-count.at 0 ∷ drop (c.loop-count.at + 1) c.args.piece.now) ≡ gathered c.args.self c.args.piece.now =
     let r = reader c.loop-count.bytes c.loop-count.count c.loop-count.awaited in
     ap (λ (i : ℕ). gathered r (get_or c.args.piece.now c.loop-count.at 0 ∷ drop i c.args.piece.now)) (add-one c.loop-count.at)
-    ∙ ap (gathered r) (sym (drop-cons c.args.piece.now c.loop-count.at 0 (inside)))
+    ∙ ap (gathered r) (sym (drop-cons c.args.piece.now c.loop-count.at 0 inside))
     ∙ sym (onward_wants r (drop c.loop-count.at c.args.piece.now) c.loop-count-test.true)
     ∙ c.loop-count.invariant.4 in (
       simp length-set c.loop-count.invariant.0,

@@ -15,7 +15,7 @@ overflow_sub-used c =
     let waiting : waits c.args.self ≡ true = sym c.waits.ensures ∙ c.if-waits.true in
     let whole : length c.args.self.bytes ≡ 37 = search rules in
     let a = c.args in
-    rw c.gather-next.ensures.value (gathered_more a.self a.piece.now (whole) (waiting))
+    rw c.gather-next.ensures.value (gathered_more a.self a.piece.now whole waiting)
 
 pub returns-then-waits : goal.returns-then-waits
 returns-then-waits c =
@@ -27,7 +27,7 @@ returns-then-waits c =
       answer = (c.say.ensures ∙ ap spoken c.gather-next.ensures.value) i;
       used = (c.gather-next.ensures.value i).count - a.self.count;
     })
-    ∙ sym (taken_waiting a.self a.piece.now (whole) (waiting))
+    ∙ sym (taken_waiting a.self a.piece.now whole waiting)
 
 pub returns : goal.returns
 unfolding taken

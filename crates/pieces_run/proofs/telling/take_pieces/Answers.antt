@@ -10,6 +10,7 @@ few n table s out at e = omega (arith, length-take (length out) (unhex_by table 
 
 pub slice_bounds-piece-end : goal.slice_bounds-piece-end
 slice_bounds-piece-end c =
+    -- a piece has no more bytes than its buffer
     let held : c.decode_by-n.result ≤ length c.decode_by-n.new.out =
     let a = c.args in
     omega (
@@ -28,7 +29,7 @@ slice_bounds-take-end c =
       few c.decode_by-n.result a.values.now a.line.now c.loop.piece c.loop.at c.decode_by-n.ensures.value,
       c.decode_by-n.auto.out,
     ) in
-    sym (length-take-le _ _ (held))
+    sym (length-take-le _ _ held)
 
 pub overflow_mul-n : goal.overflow_mul-n
 overflow_mul-n c =

@@ -15,7 +15,7 @@ behind : (k n : ℕ) → Others k n → n ≤ k
 behind k zero f = omega arith
 behind k (suc n) f = omega (arith, behind k n f.0, f.1)
 
--- the returns-in_default arm: below 64, and none of the others
+-- the last arm: below 64, and none of the others
 pub returns-in_default : goal.returns-in_default
 unfolding join
 returns-in_default c =

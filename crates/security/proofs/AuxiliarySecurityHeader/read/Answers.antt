@@ -13,11 +13,12 @@ use Rattle.security.proofs.AuxiliarySecurityHeader.read.Goals as goal
 pub returns-then-left-n : goal.returns-then-left-n
 unfolding read_security
 returns-then-left-n c =
+    -- behind the call of `key_octets`: the length is the one that the control byte announces
     let announced : (let a = c.args in c.key_octets-n.result ≡ key_length (control_at a.s.now a.at).key_id_mode) =
     c.key_octets-n.ensures.value
     ∙ ap (λ (k : SecurityControl). key_length k.key_id_mode)
     (c.from_bits-control.ensures ∙ ap security_control_in c.u8_at.ensures) in
-    simp (rw (announced) at (fewer c.left.ensures c.if-left-n.true))
+    simp (rw announced at (fewer c.left.ensures c.if-left-n.true))
 
 pub returns : goal.returns
 unfolding read_security
@@ -27,7 +28,7 @@ returns c =
     ∙ ap (λ (k : SecurityControl). key_length k.key_id_mode)
     (c.from_bits-control.ensures ∙ ap security_control_in c.u8_at.ensures) in
     simp (
-      rw (announced) at (enough c.left.ensures c.if-left-n.false),
+      rw announced at (enough c.left.ensures c.if-left-n.false),
       announced,
       c.at.ensures,
     )

@@ -17,9 +17,10 @@ returns-then-too_large c =
 pub returns-then-left-n : goal.returns-then-left-n
 unfolding write_time_slots
 returns-then-left-n c =
+    -- the size, where no number is too large
     let whole : c.size-n.result ≡ time_slots_size c.args.self = c.size-n.ensures.value ∙ plain_size _ (plain c.too_large.ensures c.if-too_large.false) in
     record {
-      value = no_room c.too_large.ensures c.if-too_large.false (whole) c.left.ensures c.if-left-n.true;
+      value = no_room c.too_large.ensures c.if-too_large.false whole c.left.ensures c.if-left-n.true;
       out_after = refl;
     }
 
@@ -27,7 +28,7 @@ pub put-requires : goal.put-requires
 unfolding write_time_slots
 put-requires c =
     let whole : c.size-n.result ≡ time_slots_size c.args.self = c.size-n.ensures.value ∙ plain_size _ (plain c.too_large.ensures c.if-too_large.false) in
-    let both = all_room c.too_large.ensures c.if-too_large.false (whole) c.left.ensures c.if-left-n.false in record {
+    let both = all_room c.too_large.ensures c.if-too_large.false whole c.left.ensures c.if-left-n.false in record {
       self_value = both.0;
       self_in_bounds = both.1;
     }
@@ -37,6 +38,6 @@ unfolding write_time_slots
 returns c =
     let whole : c.size-n.result ≡ time_slots_size c.args.self = c.size-n.ensures.value ∙ plain_size _ (plain c.too_large.ensures c.if-too_large.false) in
     record {
-      value = stored c.too_large.ensures c.if-too_large.false (whole) c.left.ensures c.if-left-n.false;
+      value = stored c.too_large.ensures c.if-too_large.false whole c.left.ensures c.if-left-n.false;
       out_after = c.put.ensures;
     }

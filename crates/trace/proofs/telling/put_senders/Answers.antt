@@ -19,10 +19,11 @@ loop-i-init c = (omega arith, refl, none _ _)
 
 pub put_sender-next-requires : goal.put_sender-next-requires
 put_sender-next-requires c =
+    -- the row is in the table
     let row : (let a = c.args in c.row_at-c.result ≡ counted_at a.table.now c.loop-i.i) = c.row_at-c.ensures ∙ row_there c.args.table.now c.loop-i.i c.requires.table_len (omega (arith, c.loop-i-test.true, c.requires.rows_le_senders_most)) in
     let a = c.args in
     let k = small_at a.counts.lines a.table.now a.counts.rows c.loop-i.i (omega (arith, c.loop-i-test.true)) c.requires.all_small in
-    rw (row) k.octets
+    rw row k.octets
 
 pub loop-i-preserved : goal.loop-i-preserved
 loop-i-preserved c =
@@ -31,7 +32,7 @@ loop-i-preserved c =
       search rules,
       c.put_sender-next.auto.out ∙ c.loop-i.invariant.1,
       same
-          (ap (λ (d : Counted). flat_map sender_line (counted_in a.table.now c.loop-i.i) ++ sender_line d) (row)
+          (ap (λ (d : Counted). flat_map sender_line (counted_in a.table.now c.loop-i.i) ++ sender_line d) row
           ∙ rows_more a.table.now c.loop-i.i)
           (join c.loop-i.invariant.2 c.put_sender-next.ensures),
     )
