@@ -15,21 +15,21 @@ use Rattle.frame_control.specs.declared.AddressMode.TheVariants as Mode
 use Rattle.identifiers.specs.declared.PanId.{PanId}
 use Rattle.identifiers.specs.PanId.{pan}
 use Rattle.address.specs.declared.Address.TheVariants.{Short, Extended}
-use Rattle.address.specs.declared.OptionalAddress.{OptionalAddress}
-use Rattle.address.specs.declared.OptionalAddress.TheVariants.{Absent, Present}
 use Rattle.address.specs.Address.{mode_of, shared_pan}
 use Rattle.address.specs.Layout.{pan_length, mode_length, address_length, pan_in, address_in, pan_bytes, address_bytes, sharing, SmallPan}
 use Rattle.address.specs.Layout.{SmallAddress}
+use Rattle.std.specs.Prelude.{Option, Some, None}
+use Rattle.address.specs.declared.Address.{Address}
 
 pub pan_length_lem : (own : Bool) (p : PanId) → length (pan_bytes own p) ≡ pan_length own
 pan_length_lem true p = split_length 2 p.0
 pan_length_lem false p = refl
 
-pub address_length_lem : (own : Bool) (a : OptionalAddress) → length (address_bytes own a) ≡ address_length own a
+pub address_length_lem : (own : Bool) (a : Option Address) → length (address_bytes own a) ≡ address_length own a
 unfolding address_bytes
-address_length_lem own Absent = refl
-address_length_lem own (Present (Short p a)) = simp (length-append, pan_length_lem, split_length)
-address_length_lem own (Present (Extended p a)) = simp (length-append, pan_length_lem, split_length)
+address_length_lem own None = refl
+address_length_lem own (Some (Short p a)) = simp (length-append, pan_length_lem, split_length)
+address_length_lem own (Some (Extended p a)) = simp (length-append, pan_length_lem, split_length)
 
 -- a PAN id and a number of n bytes behind it, in a longer list
 abbrev pair : Bool → PanId → ℕ → ℕ → List ℕ
@@ -50,14 +50,14 @@ behind_back own p before after at n v e h =
     (number_back (before ++ pan_bytes own p) (at + pan_length own) n v after k h)
 
 -- what was written is read as it was, but for a PAN id that was left out
-pub address_back : (own : Bool) (shared : PanId) (a : OptionalAddress) (before after : List ℕ) (at : ℕ) → length before ≡ at →
+pub address_back : (own : Bool) (shared : PanId) (a : Option Address) (before after : List ℕ) (at : ℕ) → length before ≡ at →
     SmallAddress a →
     address_in own shared (mode_of a) (before ++ (address_bytes own a ++ after)) at ≡ sharing own shared a
 unfolding address_in address_bytes
-address_back own shared Absent before after at e h = refl
-address_back own shared (Present (Short p a)) before after at e h =
+address_back own shared None before after at e h = refl
+address_back own shared (Some (Short p a)) before after at e h =
     rw (pan_back own shared p before after at 2 a.0 e h.0, behind_back own p before after at 2 a.0 e h.1)
-address_back own shared (Present (Extended p a)) before after at e h =
+address_back own shared (Some (Extended p a)) before after at e h =
     rw (pan_back own shared p before after at 8 a.0 e h.0, behind_back own p before after at 8 a.0 e h.1)
 
 -- what was read is written as it was
@@ -110,10 +110,10 @@ address_small own shared Mode.Short s at b p h =
 address_small own shared Mode.Extended s at b p h =
     (pan_small own shared s at b p (omega arith), number_small s (at + pan_length own) 8 b (omega arith))
 
-pub shared_small : (a : OptionalAddress) → SmallAddress a → SmallPan (shared_pan a)
-shared_small Absent h = omega arith
-shared_small (Present (Short p a)) h = h.0
-shared_small (Present (Extended p a)) h = h.0
+pub shared_small : (a : Option Address) → SmallAddress a → SmallPan (shared_pan a)
+shared_small None h = omega arith
+shared_small (Some (Short p a)) h = h.0
+shared_small (Some (Extended p a)) h = h.0
 
 pub address_mode : (own : Bool) (shared : PanId) (m : AddressMode) (s : List ℕ) (at : ℕ) → mode_of (address_in own shared m s at) ≡ m
 unfolding address_in

@@ -14,16 +14,10 @@ use frame_control::AddressMode;
 use identifiers::{ExtendedAddress, PanId, ShortAddress};
 use octets::{behind, put, u16_at, u64_at};
 
-#[derive(Clone, Copy)]
+#[derive(Clone, Copy, Debug, PartialEq, Eq)]
 pub enum Address {
     Short(PanId, ShortAddress),
     Extended(PanId, ExtendedAddress),
-}
-
-#[derive(Clone, Copy)]
-pub enum OptionalAddress {
-    Absent,
-    Present(Address),
 }
 
 impl Address {
@@ -46,52 +40,40 @@ impl Address {
     }
 
     // The address that all of a mode's devices hear, none for the mode without one.
-    pub fn broadcast(mode: AddressMode) -> OptionalAddress
+    pub fn broadcast(mode: AddressMode) -> Option<Address>
         ensures { result ≡ broadcast_of mode }
     {
         match mode {
-            AddressMode::None => OptionalAddress::Absent,
-            AddressMode::Short => {
-                OptionalAddress::Present(Address::Short(PanId::BROADCAST, ShortAddress::BROADCAST))
-            }
-            AddressMode::Extended => {
-                OptionalAddress::Present(Address::Extended(
-                    PanId::BROADCAST,
-                    ExtendedAddress::BROADCAST,
-                ))
-            }
+            AddressMode::None => None,
+            AddressMode::Short => Some(Address::Short(PanId::BROADCAST, ShortAddress::BROADCAST)),
+            AddressMode::Extended => Some(Address::Extended(
+                PanId::BROADCAST,
+                ExtendedAddress::BROADCAST,
+            )),
         }
     }
 }
 
-impl OptionalAddress {
-    // The mode that announces it, none where it is absent.
-    pub fn mode(self) -> AddressMode
-        ensures { result ≡ mode_of self }
-    {
-        match self {
-            OptionalAddress::Absent => AddressMode::None,
-            OptionalAddress::Present(address) => address.mode(),
-        }
-    }
+// The mode that announces an address, none where it is absent.
+pub fn mode_of(address: Option<Address>) -> AddressMode
+    ensures { result ≡ mode_of address }
+{
+    address.map_or(AddressMode::None, |present| present.mode())
+}
 
-    // The PAN id that a compressed source shares with this destination; 0 where there is none to share.
-    pub fn shared_pan(self) -> PanId
-        ensures { result ≡ shared_pan self }
-    {
-        match self {
-            OptionalAddress::Absent => PanId(0),
-            OptionalAddress::Present(address) => address.pan_id(),
-        }
-    }
+// The PAN id that a compressed source shares with a destination; 0 where there is none to share.
+pub fn shared_pan(destination: Option<Address>) -> PanId
+    ensures { result ≡ shared_pan destination }
+{
+    destination.map_or(PanId(0), |present| present.pan_id())
+}
 
-    // How many bytes it takes in a frame, with its own PAN id or without.
-    pub fn octets(self, own: bool) -> usize
-        ensures value { result ≡ address_length own self }
-        ensures upper_bound { result ≤ 10 }
-    {
-        mode_octets(self.mode(), own)
-    }
+// How many bytes an address takes in a frame, with its own PAN id or without.
+pub fn address_octets(address: Option<Address>, own: bool) -> usize
+    ensures value { result ≡ address_length own address }
+    ensures upper_bound { result ≤ 10 }
+{
+    mode_octets(mode_of(address), own)
 }
 
 fn pan_octets(own: bool) -> usize
@@ -127,20 +109,20 @@ pub fn address_at(
     mode: AddressMode,
     own: bool,
     shared: PanId,
-) -> OptionalAddress
+) -> Option<Address>
     ensures { result ≡ address_in own shared mode s.now at }
 {
     match mode {
-        AddressMode::None => OptionalAddress::Absent,
+        AddressMode::None => None,
         AddressMode::Short => {
             let pan_id = pan_at(s, at, own, shared);
             let short = u16_at(s, behind(s, at, pan_octets(own)));
-            OptionalAddress::Present(Address::Short(pan_id, ShortAddress(short)))
+            Some(Address::Short(pan_id, ShortAddress(short)))
         }
         AddressMode::Extended => {
             let pan_id = pan_at(s, at, own, shared);
             let extended = u64_at(s, behind(s, at, pan_octets(own)));
-            OptionalAddress::Present(Address::Extended(pan_id, ExtendedAddress(extended)))
+            Some(Address::Extended(pan_id, ExtendedAddress(extended)))
         }
     }
 }
@@ -167,15 +149,14 @@ fn put_pair(pan_id: PanId, own: bool, v: u64, n: usize, out: &mut [u8], at: usiz
 }
 
 // Stores an address, or nothing, at a place, as much as has room, and returns the place behind it.
-pub fn put_address(address: OptionalAddress, own: bool, out: &mut [u8], at: usize) -> usize
+#[tactic(auto, using(octets::proofs::Buffer::laid_none), unfolding(crate::specs::Layout::address_bytes))]
+pub fn put_address(address: Option<Address>, own: bool, out: &mut [u8], at: usize) -> usize
     ensures value { result ≡ at + min (address_length own address) (length out.old - at) }
     ensures out_after { out.new ≡ laid out.old at (address_bytes own address) }
 {
-    let OptionalAddress::Present(present) = address else {
-        return at;
-    };
-    match present {
-        Address::Short(pan_id, short) => put_pair(pan_id, own, short.0 as u64, 2, out, at),
-        Address::Extended(pan_id, extended) => put_pair(pan_id, own, extended.0, 8, out, at),
+    match address {
+        None => at,
+        Some(Address::Short(pan_id, short)) => put_pair(pan_id, own, short.0 as u64, 2, out, at),
+        Some(Address::Extended(pan_id, extended)) => put_pair(pan_id, own, extended.0, 8, out, at),
     }
 }

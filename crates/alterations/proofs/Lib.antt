@@ -1,5 +1,4 @@
 pub mod Masks
-pub mod Notes
 pub mod Answers
 pub mod Lists
 pub mod Told

@@ -1,12 +1,10 @@
 -- Laws of masks: the bits of a byte that stand side by side, by their number.
 -- Assumes nothing.
-use Prim.Native.Nat.{ℕ, zero, suc, ◌+◌, ◌-◌, ◌*◌, ◌/◌, ◌%◌, ◌^◌, ◌<◌}
-use native.Mathlib.Omega.{arith}
+use Prim.Native.Nat.{ℕ, ◌+◌, ◌*◌, ◌/◌, ◌%◌, ◌^◌, ◌<◌}
 use mathlib.Core.Bool.{Bool}
 use mathlib.Core.List.{[], ◌∷◌}
-use mathlib.Core.Path.{◌≡◌, refl}
+use mathlib.Core.Path.{◌≡◌}
 use lib.Dec.{eqb}
-use lib.ListN.{drop}
 use Rattle.octets.specs.Bits.{bits}
 use Rattle.octets.proofs.Each.{below, each, same}
 use Rattle.alterations.specs.Altered.{mask, span}
@@ -23,18 +21,6 @@ unfolding mask
 held_mask b at count h i j =
     same (held at count) (mask (span at count)) 256
     (each (of_byte at) 8 (each (λ (at : ℕ). below (of_byte at) 8) 8 tt at i) count j) b h
-
--- all bits from one on
-pub span_all : (n : ℕ) → n < 8 → span n (8 - n) ≡ drop n (0 ∷ 1 ∷ 2 ∷ 3 ∷ 4 ∷ 5 ∷ 6 ∷ 7 ∷ [])
-span_all zero h = refl
-span_all (suc zero) h = refl
-span_all (suc (suc zero)) h = refl
-span_all (suc (suc (suc zero))) h = refl
-span_all (suc (suc (suc (suc zero)))) h = refl
-span_all (suc (suc (suc (suc (suc zero))))) h = refl
-span_all (suc (suc (suc (suc (suc (suc zero)))))) h = refl
-span_all (suc (suc (suc (suc (suc (suc (suc zero))))))) h = refl
-span_all (suc (suc (suc (suc (suc (suc (suc (suc n)))))))) h = absurd (omega arith)
 
 -- bits 3 and 7
 pub pending_held : (b : ℕ) → b < 256 → b / 8 % 2 * 8 + b / 128 * 128 ≡ mask (3 ∷ 7 ∷ []) b

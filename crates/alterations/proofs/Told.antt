@@ -1,47 +1,24 @@
--- An answer and a list noted down are what is told of the frame.
+-- The list of a frame that is not rewritten, and of one that is.
 -- Assumes nothing.
 use Prim.Native.Nat.{ℕ}
-use native.Mathlib.Nat.{zero-add}
+use mathlib.Core.Bool.{Bool, true, false, not}
 use mathlib.Core.List.{List, []}
-use mathlib.Core.Path.{◌≡◌, sym, ap, ◌∙◌}
-use borrow.Author.Tests.{eq-eqb, ne_eqb}
-use lib.ListN.{length, replicate}
-use Rattle.octets.specs.declared.Outcome.{Outcome}
-use Rattle.alterations.specs.declared.Alterations.{Alterations}
+use mathlib.Core.Path.{◌≡◌, ap}
+use Rattle.std.specs.Prelude.{Ok, Err, is_ok}
+use Rattle.octets.specs.Outcome.{Outcome}
+use Rattle.beacon.specs.Beacon.{refuses}
 use Rattle.alterations.specs.Listed.{listed}
 use Rattle.alterations.specs.Rewriting.{rewrite_frame}
-use Rattle.alterations.specs.Altered.{altered_in, altered, told, alterations}
-use Rattle.alterations.specs.Noted.{Noted}
-use Rattle.alterations.proofs.Notes.{noted_none}
+use Rattle.alterations.specs.Altered.{altered_in, altered}
 
--- the list of a frame that is not rewritten, and of one that is
-pub altered_none : (s : List ℕ) → ((rewrite_frame s).number ≡ 0 → ⊥) → altered s ≡ []
+pub refusing : (o : Outcome) (b : Bool) → is_ok o ≡ b → refuses o ≡ not b
+refusing (Ok n) b e = ap not e
+refusing (Err r) b e = ap not e
+
+pub altered_none : (s : List ℕ) → refuses (rewrite_frame s) ≡ true → altered s ≡ []
 unfolding altered
-altered_none s f = simp (ne_eqb (rewrite_frame s).number 0 f)
+altered_none s t = simp t
 
-pub altered_some : (s : List ℕ) → (rewrite_frame s).number ≡ 0 → altered s ≡ altered_in s (listed s)
+pub altered_some : (s : List ℕ) → refuses (rewrite_frame s) ≡ false → altered s ≡ altered_in s (listed s)
 unfolding altered
-altered_some s z = simp (eq-eqb (rewrite_frame s).number 0 z)
-
--- noted down in arrays of six zeros
-noted_told : (o : Outcome) (l : List (ℕ × ℕ)) (q n : List ℕ) (r : ℕ) → Noted (replicate 6 0) (replicate 6 0) 0 l q n r →
-    ◌≡◌ {A = Alterations} (record { outcome = o; count = r; places = q; masks = n }) (told o l)
-noted_told o l q n r c =
-    let count = c.next ∙ zero-add (length l) in
-    λ i. record { outcome = o; count = count i; places = c.places i; masks = c.masks i }
-
-module _ (s : List ℕ) (o : Outcome) (e : o ≡ rewrite_frame s) where
-  pub told_none : (o.number ≡ 0 → ⊥) →
-      ◌≡◌ {A = Alterations} (record { outcome = o; count = 0; places = replicate 6 0; masks = replicate 6 0 }) (alterations s)
-  unfolding alterations
-  told_none f =
-      let none : [] ≡ altered s = sym (altered_none s (λ z. f (ap (λ (o : Outcome). o.number) e ∙ z))) in
-      noted_told o [] (replicate 6 0) (replicate 6 0) 0 noted_none ∙ (λ i. told (e i) (none i))
-
-  pub told_some : (l : List (ℕ × ℕ)) (q n : List ℕ) (r : ℕ) → o.number ≡ 0 → l ≡ altered_in s (listed s) →
-      Noted (replicate 6 0) (replicate 6 0) 0 l q n r →
-      ◌≡◌ {A = Alterations} (record { outcome = o; count = r; places = q; masks = n }) (alterations s)
-  unfolding alterations
-  told_some l q n r z same c =
-      noted_told o l q n r c
-      ∙ (λ i. told (e i) ((same ∙ sym (altered_some s (ap (λ (o : Outcome). o.number) (sym e) ∙ z))) i))
+altered_some s f = simp f

@@ -1,7 +1,6 @@
 -- The bits that rewriting a given frame alters: those that are set in the frame and listed for its parts.
-use Rattle.std.specs.Prelude.{ℕ, ◌+◌, ◌^◌, Bool, cond, not, ◌&&◌, List, [], ◌∷◌, ◌++◌, map, eqb, length}
-use Rattle.std.specs.Prelude.{get_or, take, drop, replicate}
-use Rattle.octets.specs.{declared.Outcome.Outcome, Bits.bit, Buffer.laid}
+use Rattle.std.specs.Prelude.{ℕ, ◌+◌, ◌^◌, Bool, cond, not, ◌&&◌, List, [], ◌∷◌, ◌++◌, eqb, length, get_or, take, drop}
+use Rattle.octets.specs.{Bits.bit, Outcome.Outcome}
 use Rattle.beacon.specs.Beacon.{refuses}
 use Rattle.alterations.specs.{declared.Alterations.Alterations, Listed.listed, Rewriting.rewrite_frame}
 
@@ -27,15 +26,9 @@ altered_in s (b ∷ rest) = altered_at b.0 (mask b.1 (get_or s b.0 0)) ++ altere
 unfoldable pub altered : List ℕ → List (ℕ × ℕ)
 altered s = cond (refuses (rewrite_frame s)) [] (altered_in s (listed s))
 
--- an answer with its list, in arrays of six, zeros behind it
+-- an answer with its list
 abbrev pub told : Outcome → List (ℕ × ℕ) → Alterations
-told o l =
-    record {
-      outcome = o;
-      count = length l;
-      places = laid (replicate 6 0) 0 (map (λ (b : ℕ × ℕ). b.0) l);
-      masks = laid (replicate 6 0) 0 (map (λ (b : ℕ × ℕ). b.1) l);
-    }
+told o l = record { outcome = o; bytes = l }
 
 unfoldable pub alterations : List ℕ → Alterations
 alterations s = told (rewrite_frame s) (altered s)

@@ -1,4 +1,4 @@
+pub mod Bytes
 pub mod Listed
 pub mod Rewriting
 pub mod Altered
-pub mod Noted

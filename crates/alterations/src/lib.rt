@@ -3,26 +3,150 @@
 // beacon behind it.
 #![tactic(auto)]
 
-ghost use Rattle.std.specs.Prelude.{◌+◌, ◌≤◌, ◌<◌, false, [], ◌∷◌, ◌≡◌, length, get_or};
-ghost use Rattle.octets.specs.Bits.{bit};
-ghost use Rattle.alterations.specs.Listed.{header_bits, direction_bits, beacon_bits, holds_beacon};
+ghost use Rattle.std.specs.Prelude.{◌≤◌, ◌<◌, [], ◌∷◌, ◌++◌, map, ◌≡◌, eqb, length, get_or};
+ghost use Rattle.alterations.specs.Bytes.{pair};
+ghost use Rattle.alterations.specs.Listed.{header_bits, direction_bits, beacon_bits, holds_beacon, listed};
 ghost use Rattle.alterations.specs.Rewriting.{rewrite_frame};
 ghost use Rattle.alterations.specs.Altered.{mask, span, altered_at, altered_in, alterations, leaves_alone};
-ghost use Rattle.alterations.specs.Noted.{Noted};
 
 use beacon_measure::{measure_beacon, time_slots_length};
+use bit_span::BitSpan;
 use header_bytes::{measure_header, source_end, sourceless};
-use octets::{Outcome, u8_at, u16_at};
+use octets::{Outcome, Refusal, u8_at, u16_at};
+use std::marker::Model;
 
-// The answer of rewriting a frame, and the bits that it alters: of each of the first count entries, the place of a byte
-// in the frame and the mask of its bits that go from 1 to 0, in the order of the bytes. Entries behind these are 0;
-// where rewriting is refused, all are.
+// A byte that rewriting alters: its place in the frame, and the mask of its bits that go from 1 to 0. Such a place is
+// below 100.
+#[derive(Clone, Copy, Debug, PartialEq, Eq)]
+pub struct AlteredByte {
+    pub place: u8,
+    pub mask: u8,
+}
+
+// Up to six of them, in the order of the bytes, in an array with a count, since no heap is used. Entries behind these
+// are 0. What notes asks for room and does not test it: no frame has more than six.
+#[derive(Clone, Copy)]
+pub struct AlteredBytes {
+    bytes: [AlteredByte; 6],
+    count: usize,
+}
+
+// Clauses see the list of places and masks.
+impl Model for AlteredBytes {
+    ghost use Rattle.std.specs.Prelude.{ℕ, ◌-◌, ◌≤◌, ◌≡◌, List, length, map, take, drop};
+    ghost use Rattle.alterations.specs.Bytes.{pair, altered_byte, zeros, in_six, same_bytes, same_count};
+
+    ghost Value = { List (ℕ × ℕ) };
+
+    ghost view = { λ l. map pair (take l.count l.bytes) };
+
+    ghost invariant = { λ l. (length l.bytes ≡ 6) × (l.count ≤ 6) × (drop l.count l.bytes ≡ zeros (6 - l.count)) };
+
+    ghost inverse = { λ l. record { bytes = in_six l; count = length l } };
+
+    ghost inverse_ok = { λ a h. λ i. record { bytes = same_bytes a.bytes a.count h.0 h.1 h.2 i; count = same_count a.bytes a.count h.0 h.1 i } };
+}
+
+impl AlteredBytes {
+    // The empty list.
+    fn new() -> Self
+        ensures { result ≡ [] }
+    {
+        AlteredBytes {
+            bytes: [AlteredByte { place: 0, mask: 0 }; 6],
+            count: 0,
+        }
+    }
+
+    // The bytes of the list.
+    pub fn as_slice(&self) -> &[AlteredByte]
+        ensures value { map pair result.now ≡ self.now }
+        ensures upper_bound { length result.now ≤ 6 }
+    {
+        &self.bytes[..self.count]
+    }
+
+    // Notes a byte's place and mask, unless the mask is 0. Asks for room.
+    fn note(&mut self, place: u8, mask: u8)
+        requires { length self.old < 6 }
+        ensures { self.new ≡ self.old ++ altered_at place mask }
+    {
+        if mask != 0 {
+            self.bytes[self.count] = AlteredByte { place, mask };
+            self.count += 1;
+        }
+    }
+
+    // Notes those bits that are set in the byte at a place. Asks for room.
+    fn note_bits(&mut self, frame: &[u8], place: u8, bits: BitSpan)
+        requires { length self.old < 6 }
+        ensures { self.new ≡ self.old ++ altered_at place (mask (span bits.at bits.count) (get_or frame.now place 0)) }
+    {
+        self.note(place, bits.held(u8_at(frame, place as usize)));
+    }
+
+    // Notes the bits of a header, by its frame control. Asks that nothing is noted yet.
+    fn note_header(&mut self, frame: &[u8], w: usize)
+        requires { self.old ≡ [] }
+        ensures { self.new ≡ altered_in frame.now (header_bits w) }
+    {
+        self.note_bits(frame, 0, BitSpan { at: 7, count: 1 });
+        self.note_bits(frame, 1, BitSpan { at: 0, count: 2 });
+        if w / 8 % 2 == 1 {
+            self.note_bits(frame, source_end(w) as u8, BitSpan { at: 5, count: 3 });
+        }
+    }
+
+    // Notes the direction bits of a beacon that belong to none of its n slots, by the place of its direction byte. Asks
+    // for room, and for n below 8.
+    fn note_directions(&mut self, frame: &[u8], n: u8, place: u8)
+        requires n_bound { n < 8 }
+        requires room { length self.old < 6 }
+        ensures { self.new ≡ self.old ++ altered_in frame.now (direction_bits n place) }
+    {
+        if n != 0 {
+            let past = BitSpan {
+                at: n,
+                count: 8 - n,
+            };
+            self.note_bits(frame, place, past);
+        }
+    }
+
+    // Notes the bits of the beacon at a place of a frame. Asks for a place where a header can end, and for room for
+    // four.
+    fn note_beacon(&mut self, frame: &[u8], at: u8)
+        requires at_bound { at ≤ 23 }
+        requires room { length self.old ≤ 2 }
+        ensures { self.new ≡ self.old ++ altered_in frame.now (beacon_bits frame.now at) }
+    {
+        self.note_bits(frame, at + 1, BitSpan { at: 5, count: 1 });
+        self.note_bits(frame, at + 2, BitSpan { at: 3, count: 4 });
+        let slots = (at + 2) as usize;
+        let n = u8_at(frame, slots) % 8;
+        self.note_directions(frame, n, at + 3);
+        let pending = at + 2 + (time_slots_length(frame, slots) as u8);
+        self.note(pending, pending_mask(u8_at(frame, pending as usize)));
+    }
+
+    // Notes the bits of a frame. Asks that nothing is noted yet.
+    fn note_frame(&mut self, frame: &[u8])
+        requires { self.old ≡ [] }
+        ensures { self.new ≡ altered_in frame.now (listed frame.now) }
+    {
+        let w = u16_at(frame, 0) as usize;
+        self.note_header(frame, w);
+        if holds_beacon(w) {
+            self.note_beacon(frame, source_end(w) as u8);
+        }
+    }
+}
+
+// The answer of rewriting a frame, and the bits that it alters: none where rewriting is refused.
 #[derive(Clone, Copy)]
 pub struct Alterations {
     pub outcome: Outcome,
-    pub count: usize,
-    pub places: [usize; 6],
-    pub masks: [u8; 6],
+    pub bytes: AlteredBytes,
 }
 
 // Whether a frame holds a beacon that is looked at, by its frame control: type 0 and no security.
@@ -36,119 +160,19 @@ fn holds_beacon(w: usize) -> bool
 fn rewriting(frame: &[u8]) -> Outcome
     ensures { result ≡ rewrite_frame frame.now }
 {
-    let header = measure_header(frame);
-    if header.number != 0 {
-        return header;
-    }
+    let header = measure_header(frame)?;
     let w = u16_at(frame, 0) as usize;
     if !holds_beacon(w) {
         if sourceless(w) {
-            return Outcome::refused(6);
+            return Err(Refusal::MissingAddress);
         }
-        return header;
+        return Ok(header);
     }
-    let beacon = measure_beacon(frame, header.length);
-    if beacon.number != 0 {
-        return beacon;
-    }
+    let beacon = measure_beacon(frame, header)?;
     if sourceless(w) {
-        return Outcome::refused(6);
+        return Err(Refusal::MissingAddress);
     }
-    Outcome::accepted(header.length + beacon.length)
-}
-
-// The count bits of a byte from bit at on, where they stand. Asks that these are below 8.
-fn held(b: u8, at: u8, count: u8) -> u8
-    requires at_bound { at < 8 }
-    requires count_bound { count < 8 }
-    ensures { result ≡ mask (span at count) b }
-{
-    (b >> at) % (1 << count) * (1 << at)
-}
-
-// Notes a byte's place and mask, unless the mask is 0. Asks for room.
-fn note(place: usize, mask: u8, places: &mut [usize], masks: &mut [u8], count: usize) -> usize
-    requires count_in_bounds { count < length places.old }
-    requires count_in_bounds_2 { count < length masks.old }
-    ensures noted { Noted places.old masks.old count (altered_at place mask)
-        places.new masks.new result }
-    ensures upper_bound { result ≤ count + 1 }
-{
-    if mask == 0 {
-        return count;
-    }
-    places[count] = place;
-    masks[count] = mask;
-    count + 1
-}
-
-// Notes those of width bits from bit at on that are set in the byte at a place. Asks for room, and for both below 8.
-fn note_bits(
-    frame: &[u8],
-    place: usize,
-    at: u8,
-    width: u8,
-    places: &mut [usize],
-    masks: &mut [u8],
-    count: usize,
-) -> usize
-    requires at_bound { at < 8 }
-    requires width_bound { width < 8 }
-    requires count_in_bounds { count < length places.old }
-    requires count_in_bounds_2 { count < length masks.old }
-    ensures noted { Noted places.old masks.old count
-        (altered_at place (mask (span at width) (get_or frame.now place 0)))
-        places.new masks.new result }
-    ensures upper_bound { result ≤ count + 1 }
-{
-    note(
-        place,
-        held(u8_at(frame, place), at, width),
-        places,
-        masks,
-        count,
-    )
-}
-
-// Notes the bits of a header, by its frame control, in arrays that hold nothing yet.
-fn note_header(frame: &[u8], w: usize, places: &mut [usize], masks: &mut [u8]) -> usize
-    requires places_len { length places.old ≡ 6 }
-    requires masks_len { length masks.old ≡ 6 }
-    ensures noted { Noted places.old masks.old 0
-        (altered_in frame.now (header_bits w))
-        places.new masks.new result }
-    ensures upper_bound { bit w 3 ≡ false → result ≤ 2 }
-{
-    let low = note_bits(frame, 0, 7, 1, places, masks, 0);
-    let high = note_bits(frame, 1, 0, 2, places, masks, low);
-    if w / 8 % 2 == 1 {
-        return note_bits(frame, source_end(w), 5, 3, places, masks, high);
-    }
-    high
-}
-
-// Notes the direction bits of a beacon that belong to none of its n slots, by the place of its direction byte. Asks for
-// room, and for n below 8.
-fn note_directions(
-    frame: &[u8],
-    n: u8,
-    place: usize,
-    places: &mut [usize],
-    masks: &mut [u8],
-    count: usize,
-) -> usize
-    requires n_bound { n < 8 }
-    requires count_in_bounds { count < length places.old }
-    requires count_in_bounds_2 { count < length masks.old }
-    ensures noted { Noted places.old masks.old count
-        (altered_in frame.now (direction_bits n place))
-        places.new masks.new result }
-    ensures upper_bound { result ≤ count + 1 }
-{
-    if n == 0 {
-        return count;
-    }
-    note_bits(frame, place, n, 8 - n, places, masks, count)
+    Ok(header + beacon)
 }
 
 // The mask of a pending header: its bits 3 and 7, where they are set.
@@ -158,69 +182,16 @@ fn pending_mask(header: u8) -> u8
     header / 8 % 2 * 8 + header / 128 * 128
 }
 
-// Notes the bits of the beacon at a place of a frame, behind count entries. Asks for a place where a header can end, and
-// for at most two entries in arrays of six.
-fn note_beacon(
-    frame: &[u8],
-    at: usize,
-    places: &mut [usize],
-    masks: &mut [u8],
-    count: usize,
-) -> usize
-    requires at_bound { at ≤ 23 }
-    requires count_bound { count ≤ 2 }
-    requires places_len { length places.old ≡ 6 }
-    requires masks_len { length masks.old ≡ 6 }
-    ensures { Noted places.old masks.old count
-        (altered_in frame.now (beacon_bits frame.now at))
-        places.new masks.new result }
-{
-    let superframe = note_bits(frame, at + 1, 5, 1, places, masks, count);
-    let slots = note_bits(frame, at + 2, 3, 4, places, masks, superframe);
-    let n = u8_at(frame, at + 2) % 8;
-    let directions = note_directions(frame, n, at + 3, places, masks, slots);
-    let pending = at + 2 + time_slots_length(frame, at + 2);
-    note(
-        pending,
-        pending_mask(u8_at(frame, pending)),
-        places,
-        masks,
-        directions,
-    )
-}
-
 // What rewriting a frame answers, and every bit that it alters.
 pub fn altered_bits(frame: &[u8]) -> Alterations
     ensures { result ≡ alterations frame.now }
 {
     let outcome = rewriting(frame);
-    if outcome.number != 0 {
-        return Alterations {
-            outcome,
-            count: 0,
-            places: [0usize; 6],
-            masks: [0u8; 6],
-        };
+    let mut bytes = AlteredBytes::new();
+    if outcome.is_ok() {
+        bytes.note_frame(frame);
     }
-    let mut places = [0usize; 6];
-    let mut masks = [0u8; 6];
-    let w = u16_at(frame, 0) as usize;
-    let header = note_header(frame, w, &mut places, &mut masks);
-    if !holds_beacon(w) {
-        return Alterations {
-            outcome,
-            count: header,
-            places,
-            masks,
-        };
-    }
-    let count = note_beacon(frame, source_end(w), &mut places, &mut masks, header);
-    Alterations {
-        outcome,
-        count,
-        places,
-        masks,
-    }
+    Alterations { outcome, bytes }
 }
 
 // Whether rewriting a frame is accepted and alters nothing.
@@ -228,9 +199,5 @@ pub fn leaves_alone(frame: &[u8]) -> bool
     ensures { result ≡ leaves_alone frame.now }
 {
     let list = altered_bits(frame);
-    let outcome = list.outcome;
-    if outcome.number != 0 {
-        return false;
-    }
-    list.count == 0
+    list.outcome.is_ok() && list.bytes.as_slice().is_empty()
 }

@@ -5,13 +5,12 @@ use mathlib.Core.Bool.{true, cond, not, ◌&&◌}
 use mathlib.Core.List.{List, [], ◌∷◌, ◌++◌}
 use mathlib.Core.Path.{◌≡◌, sym, ap, ◌∙◌}
 use lib.Dec.{eqb}
-use Rattle.octets.specs.{Bits.bits, Bits.bit, Little.number, Outcome.accepted}
+use Rattle.octets.specs.{Bits.bits, Bits.bit, Little.number}
 use Rattle.octets.proofs.Cases.{cases, holds?}
 use Rattle.header_bytes.specs.Layout.{own_destination, own_source, pan_size, address_size, source_end, header_end}
 use Rattle.header_bytes.specs.{Reading.measured}
 use Rattle.header_bytes.proofs.Accepted.{read_accepted}
 use Rattle.header.specs.declared.Header.{Header}
-use Rattle.header.specs.declared.HeaderRead.TheVariants.{Read}
 use Rattle.header.specs.Read.{read_header, read_outcome}
 use Rattle.header.proofs.Apart.{read_measured}
 use Rattle.time_slots.specs.TimeSlots.{slots_length, slot_count_in, time_slots_in}
@@ -21,6 +20,8 @@ use Rattle.beacon_facts.proofs.Beacon.{beacon_read}
 use Rattle.alterations.specs.Listed.{header_bits, direction_bits, beacon_bits, holds_beacon, listed}
 use Rattle.alterations.proofs.Answers.{Accepted}
 use Rattle.alterations_facts.proofs.Records.{Told, told_read, Same}
+use Rattle.std.specs.Prelude.{Ok}
+use Rattle.octets.specs.Outcome.{number_of, length_of}
 
 pub record Alike (s t : List ℕ) : Type 0 where
   pub type : bits (number t 0 2) 0 3 ≡ bits (number s 0 2) 0 3
@@ -33,7 +34,7 @@ pub record Alike (s t : List ℕ) : Type 0 where
       read_beacon t (header_end s (number s 0 2)) ≡ read_beacon s (header_end s (number s 0 2))
 
 -- frames whose headers are read with the same length as records that tell the same
-pub alike_read : (s t : List ℕ) (h g : Header) (n : ℕ) → read_header s ≡ Read h n → read_header t ≡ Read g n → Same h g →
+pub alike_read : (s t : List ℕ) (h g : Header) (n : ℕ) → read_header s ≡ Ok (h, n) → read_header t ≡ Ok (g, n) → Same h g →
     (holds_beacon (number s 0 2) ≡ true → read_beacon t (header_end s (number s 0 2)) ≡ read_beacon s (header_end s (number s 0 2))) →
     Alike s t
 alike_read s t h g n e f same beacon =
@@ -50,15 +51,15 @@ alike_read s t h g n e f same beacon =
     }
 
 -- two beacons at a place that read as one have the same count of slots
-beacon_counts : (s t : List ℕ) (at : ℕ) → (read_beacon s at).outcome.number ≡ 0 → read_beacon t at ≡ read_beacon s at →
+beacon_counts : (s t : List ℕ) (at : ℕ) → number_of (read_beacon s at).outcome ≡ 0 → read_beacon t at ≡ read_beacon s at →
     (slot_count_in t (at + 2) ≡ slot_count_in s (at + 2)) × (beacon_length_in t at ≡ beacon_length_in s at)
 unfolding beacon_in time_slots_in
 beacon_counts s t at z e =
     let first = (beacon_read s at z).0 in
-    let second = (beacon_read t at (ap (λ (r : BeaconRead). r.outcome.number) e ∙ z)).0 in
+    let second = (beacon_read t at (ap (λ (r : BeaconRead). number_of r.outcome) e ∙ z)).0 in
     let same = sym second ∙ e ∙ first in (
       ap (λ (r : BeaconRead). r.beacon.guaranteed_time_slot_info.slot_count) same,
-      ap (λ (r : BeaconRead). r.outcome.length) same,
+      ap (λ (r : BeaconRead). length_of r.outcome) same,
     )
 
 module _ (s t : List ℕ) (m : ℕ) (a : Accepted s m) (k : Alike s t) where
@@ -102,11 +103,11 @@ module _ (s t : List ℕ) (m : ℕ) (a : Accepted s m) (k : Alike s t) where
   pub accepted_alike : Accepted t m
   accepted_alike =
       record {
-        read = k.read ∙ a.read ∙ ap accepted (sym end);
+        read = k.read ∙ a.read ∙ ap Ok (sym end);
         source = (λ i. k.compress i && eqb (k.from i) 0) ∙ a.source;
         beacon = λ on.
-            ap (λ (at : ℕ). (read_beacon t at).outcome.number) end
-            ∙ ap (λ (r : BeaconRead). r.outcome.number) (k.beacon (sym holds ∙ on))
+            ap (λ (at : ℕ). number_of (read_beacon t at).outcome) end
+            ∙ ap (λ (r : BeaconRead). number_of r.outcome) (k.beacon (sym holds ∙ on))
             ∙ a.beacon (sym holds ∙ on);
         long = a.long
             ∙ cases (holds? (holds_beacon w))

@@ -5,18 +5,15 @@ use native.Mathlib.Nat.{zero-add}
 use native.Mathlib.Omega.{arith}
 use mathlib.Core.Bool.{Bool, true, cond}
 use mathlib.Core.List.{List, [], ◌++◌, append-nil, append_assoc}
-use mathlib.Core.Path.{◌≡◌, refl, sym, ap, ◌∙◌}
+use mathlib.Core.Path.{◌≡◌, sym, ap, ◌∙◌}
 use lib.ListN.{length, take, drop, length-append, length-drop}
 use lib.Seq.{take_at, drop_at, drop-drop, length-take-le}
-use Rattle.octets.specs.declared.Outcome.{Outcome}
-use Rattle.octets.specs.{Bits.bits, Buffer.laid, Buffer.after, Little.number, Little.Bytes, Outcome.accepted}
+use Rattle.octets.specs.{Bits.bits, Buffer.laid, Buffer.after, Little.number, Little.Bytes}
 use Rattle.octets.proofs.Buffer.{laid_all}
 use Rattle.octets.proofs.Cases.{cases, holds?}
 use Rattle.header_bytes.specs.{Layout.header_end, Cleared.header_cleared}
 use Rattle.header_bytes.proofs.{Cleared.header_cleared_length, Rewrites.rewrite_accepts}
 use Rattle.header.specs.declared.Header.{Header}
-use Rattle.header.specs.declared.HeaderRead.{HeaderRead}
-use Rattle.header.specs.declared.HeaderRead.TheVariants.{Read}
 use Rattle.header.specs.Read.{header_in, read_header}
 use Rattle.header_facts.specs.RoundTrip.{header_after}
 use Rattle.header_facts.proofs.Trip as HeaderTrip
@@ -38,6 +35,9 @@ use Rattle.alterations.specs.Rewriting.{frame_cleared}
 use Rattle.alterations.proofs.Answers.{Accepted}
 use Rattle.alterations_facts.specs.Bridge.{bridge_after, header_entry, beacon_entry, driven}
 use Rattle.alterations_facts.proofs.Records.{told_read, holds_told, header_read}
+use Rattle.std.specs.Prelude.{Result, Ok}
+use Rattle.octets.specs.Outcome.{number_of, Outcome}
+use Rattle.octets.specs.declared.Refusal.{Refusal}
 
 -- a number in the rest of a list
 number_rest : (s : List ℕ) (n at k : ℕ) → number (drop n s) at k ≡ number s (n + at) k
@@ -81,8 +81,8 @@ module _ (s : List ℕ) (m : ℕ) (out : List ℕ) (y : Bytes s) (a : Accepted s
   abbrev k : ℕ
   k = beacon_length_in s n
 
-  pub read : read_header s ≡ Read h n
-  read = header_read s (ap (λ (o : Outcome). o.number) a.read)
+  pub read : read_header s ≡ Ok (h, n)
+  read = header_read s (ap number_of a.read)
 
   pub holds : holds_beacon w ≡ unsecured_beacon h
   holds = holds_told s h (told_read s h n read)
@@ -136,7 +136,7 @@ module _ (s : List ℕ) (m : ℕ) (out : List ℕ) (y : Bytes s) (a : Accepted s
 
   pub bridge_left : bridge_after s (read_header s) out ≡ frame_cleared s ++ drop m out
   bridge_left =
-      ap (λ (r : HeaderRead). bridge_after s r out) read
+      ap (λ (r : Result (Header × ℕ) Refusal). bridge_after s r out) read
       ∙ ap (λ (on : Bool). cond on (beacon_after x (header_after h out 0) n) (header_after h out 0)) (sym holds)
       ∙ ap (λ (l : List ℕ). cond (holds_beacon w) (beacon_after x l n) l) header_left
       ∙ cases (holds? (holds_beacon w))
@@ -154,10 +154,10 @@ module _ (s : List ℕ) (m : ℕ) (out : List ℕ) (y : Bytes s) (a : Accepted s
       let there = all_found s n (beacon_read s n (a.beacon on)).1 in
       let rest : length (drop n out) ≡ length out - n = length-drop n out in
       let inside : length (drop n s) ≡ length s - n = length-drop n s in
-      let answer : accepted k ≡ (read_beacon (drop n s) 0).outcome =
+      let answer : Ok k ≡ (read_beacon (drop n s) 0).outcome =
       all_there (drop n s) 0 k (sym (length_rest s n)) (omega (arith, there, inside)) in
-      let told : accepted k ≡ rewrite_beacon (drop n s) (length (drop n out)) =
-      beacon_fits (drop n s) (length (drop n out)) (accepted k) answer refl (omega (arith, rest, room, e)) in
+      let told : Ok k ≡ rewrite_beacon (drop n s) (length (drop n out)) =
+      beacon_fits (drop n s) (length (drop n out)) answer (omega (arith, rest, room, e)) in
       let size : length (beacon_cleared s n) ≡ k =
       (BeaconTrip.round_trip s n x k half n y (beacon_answer on) (omega (arith, half_long, room, e))).long in
       ap (λ (o : Outcome). after o (drop n out) 0 (beacon_cleared (drop n s) 0)) (sym told)

@@ -13,13 +13,14 @@ use Rattle.frame_control.specs.{Types.type_bits, Modes.mode_bits}
 use Rattle.frame_control.proofs.Known.{type_again}
 use Rattle.address.specs.Address.{mode_of}
 use Rattle.header.specs.declared.Header.{Header}
-use Rattle.header.specs.declared.HeaderRead.TheVariants.{Read}
 use Rattle.header.specs.{Record.secured, Read.header_in, Read.read_header}
 use Rattle.header.proofs.Apart.{together, apart}
 use Rattle.header_facts.proofs.Fields.{to_bits, from_bits, part_present}
 use Rattle.payload.specs.Frame.{unsecured_beacon}
 use Rattle.alterations.specs.Listed.{holds_beacon}
 use Rattle.alterations_facts.proofs.Truth.{and_false, and_true}
+use Rattle.std.specs.Prelude.{Ok}
+use Rattle.octets.specs.Outcome.{number_of}
 
 -- the bits of a frame control that tell where the parts of a frame lie
 pub record Told (s : List ℕ) (h : Header) : Type 0 where
@@ -40,7 +41,7 @@ told_passed s p =
       from = sym (from_bits s p);
     }
 
-pub told_read : (s : List ℕ) (h : Header) (n : ℕ) → read_header s ≡ Read h n → Told s h
+pub told_read : (s : List ℕ) (h : Header) (n : ℕ) → read_header s ≡ Ok (h, n) → Told s h
 told_read s h n e = let q = apart s h n e in rw q.header at (told_passed s q.passed)
 
 -- two records that tell the same of it
@@ -60,5 +61,5 @@ pub holds_told : (s : List ℕ) (h : Header) → Told s h → holds_beacon (numb
 holds_told s h t = (λ i. eqb (t.type i) 0 && not (t.security i)) ∙ holds_so (secured h) (type_bits h.frame_type)
 
 -- what measuring accepts is read
-pub header_read : (s : List ℕ) → (measured s).number ≡ 0 → read_header s ≡ Read (header_in s (number s 0 2)) (header_end s (number s 0 2))
+pub header_read : (s : List ℕ) → number_of (measured s) ≡ 0 → read_header s ≡ Ok (header_in s (number s 0 2), header_end s (number s 0 2))
 header_read s z = together s (number s 0 2) (measured_passed s z).0

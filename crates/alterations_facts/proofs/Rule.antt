@@ -9,14 +9,12 @@ use borrow.Author.Tests.{ltb-true, ltb-false}
 use lib.Dec.{ltb, eqb}
 use lib.ListN.{length, get_or, take, drop, get_or-append}
 use lib.Seq.{take_at, drop_at, get_or-take, length-take-le}
-use Rattle.octets.specs.declared.Outcome.{Outcome}
-use Rattle.octets.specs.{Bits.bit, Little.number, Little.Bytes, Outcome.accepted}
+use Rattle.octets.specs.{Bits.bit, Little.number, Little.Bytes}
 use Rattle.octets.proofs.Cases.{cases, holds?}
 use Rattle.octets.proofs.Little.{bytes_take, bytes_drop, bytes_append}
 use Rattle.header_bytes.specs.{Layout.header_end, Cleared.header_cleared}
 use Rattle.header_bytes.proofs.Cleared.{header_cleared_length}
 use Rattle.header.specs.declared.Header.{Header}
-use Rattle.header.specs.declared.HeaderRead.TheVariants.{Read}
 use Rattle.header.specs.Read.{header_in, read_header}
 use Rattle.header_facts.specs.Rewritten.{lost}
 use Rattle.header_facts.proofs.Trip.{header_rewritten, unread}
@@ -41,6 +39,8 @@ use Rattle.alterations_facts.proofs.Records.{Same}
 use Rattle.alterations_facts.proofs.Alike.{Alike, alike_read, listed_alike, accepted_alike}
 use Rattle.alterations_facts.proofs.Order.{rising_altered, listed_rising}
 use Rattle.alterations_facts.proofs.Bridge.{read, beacon_answer, bridge_left, entries_left}
+use Rattle.std.specs.Prelude.{Ok}
+use Rattle.octets.specs.Outcome.{Outcome}
 
 -- lists of bytes with the same bits
 bytes_by_bits : (l m : List ℕ) → length l ≡ length m → Bytes l → Bytes m →
@@ -61,7 +61,7 @@ altered_same s t m (x ∷ l) h e =
     λ i. altered_at x.0 (mask x.1 (e x.0 h.0 i)) ++ altered_same s t m l h.1 e i
 
 -- what is told of a frame that is rewritten
-told_accepted : (s : List ℕ) (m : ℕ) (l : List (ℕ × ℕ)) → rewrite_frame s ≡ accepted m → altered s ≡ l → alterations s ≡ told (accepted m) l
+told_accepted : (s : List ℕ) (m : ℕ) (l : List (ℕ × ℕ)) → rewrite_frame s ≡ Ok m → altered s ≡ l → alterations s ≡ told (Ok m) l
 unfolding alterations
 told_accepted s m l e f = λ i. told (e i) (f i)
 
@@ -72,7 +72,7 @@ same_lost h = record { type = refl; security = refl; compress = refl; to = refl;
 same_self : (h : Header) → Same h h
 same_self h = record { type = refl; security = refl; compress = refl; to = refl; from = refl }
 
-module _ (s : List ℕ) (m : ℕ) (y : Bytes s) (e : rewrite_frame s ≡ accepted m) where
+module _ (s : List ℕ) (m : ℕ) (y : Bytes s) (e : rewrite_frame s ≡ Ok m) where
   abbrev w : ℕ
   w = number s 0 2
 
@@ -89,7 +89,7 @@ module _ (s : List ℕ) (m : ℕ) (y : Bytes s) (e : rewrite_frame s ≡ accepte
   within = frame_within s y m a
 
   list : altered s ≡ altered_in s (listed s)
-  list = altered_some s (ap (λ (o : Outcome). o.number) e)
+  list = altered_some s (ap refuses e)
 
   -- named is what is set and listed
   names : (i b : ℕ) → b < 8 → named (altered s) i b ≡ (bit_at s i b && is_listed (listed s) i b)
@@ -157,10 +157,10 @@ module _ (s : List ℕ) (m : ℕ) (y : Bytes s) (e : rewrite_frame s ≡ accepte
     parts : t ≡ header_cleared s ++ (beacon ++ more)
     parts = append_assoc (header_cleared s) beacon more
 
-    header : read_header s ≡ Read h n
+    header : read_header s ≡ Ok (h, n)
     header = read s m s y a within
 
-    reread : read_header t ≡ Read (lost h) n
+    reread : read_header t ≡ Ok (lost h, n)
     reread =
         let trip = header_rewritten s h n y header in
         ap read_header parts ∙ ap (λ (l : List ℕ). read_header (l ++ (beacon ++ more))) (sym trip.written) ∙ trip.again (beacon ++ more)
@@ -178,12 +178,12 @@ module _ (s : List ℕ) (m : ℕ) (y : Bytes s) (e : rewrite_frame s ≡ accepte
     alike_again : Alike s t
     alike_again = alike_read s t h (lost h) n header reread (same_lost h) rebeacon
 
-    settled : Bytes more → alterations t ≡ told (accepted m) []
+    settled : Bytes more → alterations t ≡ told (Ok m) []
     settled z =
         let taken = frame_accepts t m (accepted_alike s t m a alike_again) in
         let bytes = bytes_append (frame_cleared s) more cleared.bytes z in
         let listing : altered t ≡ altered_in t (listed s) =
-        altered_some t (ap (λ (o : Outcome). o.number) taken) ∙ ap (altered_in t) (listed_alike s t m a alike_again) in
+        altered_some t (ap refuses taken) ∙ ap (altered_in t) (listed_alike s t m a alike_again) in
         told_accepted t m [] taken
         (listing
         ∙ names_nothing (altered_in t (listed s)) (solid_altered t (listed s) bytes (listed_listable s))
@@ -204,10 +204,10 @@ module _ (s : List ℕ) (m : ℕ) (y : Bytes s) (e : rewrite_frame s ≡ accepte
     abbrev longer : List ℕ
     longer = s ++ more
 
-    first : read_header s ≡ Read h n
+    first : read_header s ≡ Ok (h, n)
     first = read s m s y a within
 
-    second : read_header longer ≡ Read h n
+    second : read_header longer ≡ Ok (h, n)
     second = unread s h n more first
 
     alike_behind : Alike s longer
@@ -221,14 +221,14 @@ module _ (s : List ℕ) (m : ℕ) (y : Bytes s) (e : rewrite_frame s ≡ accepte
     behind =
         let taken = frame_accepts longer m (accepted_alike s longer m a alike_behind) in
         let listing : altered longer ≡ altered s =
-        altered_some longer (ap (λ (o : Outcome). o.number) taken)
+        altered_some longer (ap refuses taken)
         ∙ ap (altered_in longer) (listed_alike s longer m a alike_behind)
         ∙ altered_same s longer m (listed s) (listed_within s m a) (λ i j. get_or-append s more 0 i (omega (arith, j, within)))
         ∙ sym list in
         told_accepted longer m (altered s) taken listing ∙ sym (told_accepted s m (altered s) e refl)
 
 -- The rule, of any frame that is rewritten and any buffer with room.
-pub altering : (s : List ℕ) (m : ℕ) (out : List ℕ) → Bytes s → Bytes out → rewrite_frame s ≡ accepted m → m ≤ length out → Altering s m out
+pub altering : (s : List ℕ) (m : ℕ) (out : List ℕ) → Bytes s → Bytes out → rewrite_frame s ≡ Ok m → m ≤ length out → Altering s m out
 altering s m out y z e room =
     let left : bridge_after s (read_header s) out ≡ frame_cleared s ++ drop m out = bridge_left s m out y (a s m y e) room in
     let size = long s m y e in

@@ -1,6 +1,5 @@
 -- The engineer's rule: every bit that rewriting alters is named before it is written.
-use Rattle.std.specs.Prelude.{ℕ, ◌≤◌, ◌<◌, true, not, ◌&&◌, List, [], ◌++◌, ◌≡◌, eqb, length, take, drop}
-use Rattle.octets.specs.{Outcome.accepted}
+use Rattle.std.specs.Prelude.{ℕ, ◌≤◌, ◌<◌, true, not, ◌&&◌, List, [], ◌++◌, ◌≡◌, eqb, length, take, drop, Ok}
 use Rattle.header.specs.Read.{read_header}
 use Rattle.alterations.specs.{Listed.listed, Altered.altered, Altered.told, Altered.alterations, Altered.leaves_alone}
 use Rattle.alterations_facts.specs.Named.{bit_at, named, is_listed, Rising}
@@ -25,7 +24,7 @@ pub record Altering (s : List ℕ) (m : ℕ) (out : List ℕ) : Type 0 where
   -- and that is what the test tells
   pub alone : leaves_alone s ≡ eqb (length (altered s)) 0
   -- of the rewritten frame the list is empty
-  pub settled : alterations (bridge_after s (read_header s) out) ≡ told (accepted m) []
+  pub settled : alterations (bridge_after s (read_header s) out) ≡ told (Ok m) []
   -- bytes added behind alter none of it
   pub behind : (more : List ℕ) → alterations (s ++ more) ≡ alterations s
   -- the C entries leave the same buffer

@@ -5,7 +5,7 @@ use native.Mathlib.Omega.{arith}
 use mathlib.Core.List.{List, [], ◌∷◌, ◌++◌, flat_map}
 use mathlib.Core.Path.{ap}
 use lib.ListN.{length, length-append}
-use Rattle.octets.specs.declared.Outcome.{Outcome}
+use Rattle.octets.specs.Outcome.{Outcome, number_of, length_of}
 use Rattle.octets.specs.Bits.{bit}
 use Rattle.octets.proofs.Cases.{cases, holds?}
 use Rattle.labelled.proofs.Answer.{labelled_most}
@@ -72,12 +72,12 @@ unfolding bits_told
 column_most [] s = omega arith
 column_most (b ∷ l) s = omega (arith, marked_most 9 (b ∷ l) s, ap length (undashed (b ∷ l) (λ e. omega (arith, e))))
 
-outcome_most : (o : Outcome) → (o.number ≤ 6) × (o.length ≤ 133) → length (outcome_told o) ≤ 6
+outcome_most : (o : Outcome) → (number_of o ≤ 6) × (length_of o ≤ 133) → length (outcome_told o) ≤ 6
 unfolding outcome_told
 outcome_most o h =
-    let number = decimal_few 0 o.number (omega (arith, h.0)) in
-    let size = decimal_few 2 o.length (omega (arith, h.1)) in
-    rw (length-append (decimal o.number)) (omega (arith, number, size))
+    let number = decimal_few 0 (number_of o) (omega (arith, h.0)) in
+    let size = decimal_few 2 (length_of o) (omega (arith, h.1)) in
+    rw (length-append (decimal (number_of o))) (omega (arith, number, size))
 
 said_most : (s : List ℕ) → length (said s) ≤ 250
 unfolding said

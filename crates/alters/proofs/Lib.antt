@@ -1,4 +1,3 @@
-pub mod Arrays
 pub mod Lengths
 pub mod Marks
 pub mod Whole

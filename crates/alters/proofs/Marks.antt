@@ -1,18 +1,23 @@
 -- Laws of bits that are told one after the other, each behind its mark.
 -- Assumes nothing.
-use Prim.Native.Nat.{ℕ, ◌+◌, ◌/◌, ◌%◌, ◌^◌}
+use Prim.Native.Nat.{ℕ, ◌+◌, ◌/◌, ◌%◌, ◌^◌, ◌<◌}
 use native.Mathlib.Numerals.{add-one}
 use native.Mathlib.Omega.{arith}
-use mathlib.Core.List.{List, [], ◌∷◌, ◌++◌, append-nil, append_assoc, flat_map}
+use mathlib.Core.List.{List, [], ◌∷◌, ◌++◌, append-nil, append_assoc, map, flat_map}
 use mathlib.Core.Path.{◌≡◌, refl, sym, ap, ◌∙◌}
 use borrow.Author.Tests.{eq-eqb, ne_eqb}
-use lib.ListN.{get_or}
+use lib.ListN.{length, get_or, take}
+use lib.Seq.{take-suc}
+use Rattle.std.proofs.lemmas.List.{map-append}
+use Rattle.octets.proofs.Lists.{flat_append}
 use Rattle.line_cutter.specs.Line.{tab_byte}
 use Rattle.labelled.specs.Put.{Put}
 use Rattle.labelled.proofs.Putting.{join, same}
 use Rattle.alters.specs.Answer.{dash, space, told, bits_told, column}
-use Rattle.alters.specs.Bits.{bits_below}
-use Rattle.alters.specs.Steps.{bits_at, marked, next_mark}
+use Rattle.alterations.specs.declared.AlteredByte.{AlteredByte}
+use Rattle.alterations.specs.Bytes.{pair, altered_byte}
+use Rattle.alters.specs.Bits.{bits_below, bits_of}
+use Rattle.alters.specs.Steps.{marked, next_mark}
 
 still : (a : List (ℕ × ℕ)) → next_mark space a ≡ space
 still [] = refl
@@ -73,10 +78,18 @@ module _ (mark before place mask k : ℕ) {l m : List ℕ} {at next : ℕ} (e : 
   told_clear h = let b = below_clear place mask k h in (same (ap (marked mark) b) s, e ∙ ap (next_mark mark) b)
 
 -- the bits of one byte more
-pub at_more : (places masks : List ℕ) (k : ℕ) →
-    bits_at places masks k ++ bits_below (get_or places k 0) (get_or masks k 0) 8 ≡ bits_at places masks (k + 1)
-unfolding bits_at
-at_more places masks k = rw add-one
+pub one_more : (bytes : List AlteredByte) (k : ℕ) → k < length bytes →
+    bits_of (map pair (take k bytes)) ++ bits_below (get_or bytes k (altered_byte (0, 0))).place (get_or bytes k (altered_byte (0, 0))).mask 8
+    ≡ bits_of (map pair (take (k + 1) bytes))
+unfolding flat_map
+one_more bytes k h =
+    let b = get_or bytes k (altered_byte (0, 0)) in
+    let before = map pair (take k bytes) in
+    rw add-one
+    (ap (λ (bits : List (ℕ × ℕ)). bits_of before ++ bits) (sym (append-nil (bits_below b.place b.mask 8)))
+    ∙ sym (flat_append (λ (b : ℕ × ℕ). bits_below b.0 b.1 8) before (pair b ∷ []))
+    ∙ ap bits_of (sym (map-append pair (take k bytes) (b ∷ [])))
+    ∙ ap (λ (l : List AlteredByte). bits_of (map pair l)) (sym (take-suc bytes k (altered_byte (0, 0)) h)))
 
 -- bits behind spaces
 spaced : (bits : List (ℕ × ℕ)) → marked space bits ≡ flat_map (λ (b : ℕ × ℕ). space ∷ told b) bits

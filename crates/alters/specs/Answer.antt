@@ -2,7 +2,7 @@
 -- and every bit that this alters.
 use Rattle.std.specs.Prelude.{ℕ, List, [], ◌∷◌, ◌++◌}
 use Rattle.octets.specs.Words.{flat_map}
-use Rattle.octets.specs.{declared.Outcome.Outcome}
+use Rattle.octets.specs.Outcome.{Outcome, number_of, length_of}
 use Rattle.line_cutter.specs.{Line.tab_byte, Line.line_feed}
 use Rattle.labelled.specs.{Answer.labelled, Decimal.decimal}
 use Rattle.alterations.specs.{Altered.altered, Rewriting.rewrite_frame}
@@ -32,7 +32,7 @@ column bits = tab_byte ∷ bits_told bits
 
 -- the columns of number and length, each behind its tab
 unfoldable pub outcome_told : Outcome → List ℕ
-outcome_told o = tab_byte ∷ (decimal o.number ++ (tab_byte ∷ decimal o.length))
+outcome_told o = tab_byte ∷ (decimal (number_of o) ++ (tab_byte ∷ decimal (length_of o)))
 
 -- what is said of a frame
 unfoldable pub said : List ℕ → List ℕ

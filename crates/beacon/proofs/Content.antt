@@ -6,15 +6,15 @@ use mathlib.Core.List.{List}
 use mathlib.Core.Path.{◌≡◌, ◌∙◌}
 use borrow.Author.Tests.{le-ltb}
 use lib.ListN.{length}
-use Rattle.octets.specs.declared.ValueWritten.{ValueWritten}
 use Rattle.octets.specs.Buffer.{laid, after}
-use Rattle.octets.specs.Value.{write_value, value_outcome}
+use Rattle.octets.specs.Value.{write_value}
 use Rattle.superframe.specs.Superframe.{superframe_too_large}
 use Rattle.time_slots.specs.TimeSlots.{time_slots_too_large}
 use Rattle.pending.specs.Pending.{pending_too_large}
 use Rattle.octets.proofs.Cases.{neither}
 use Rattle.beacon.specs.declared.Beacon.{Beacon}
 use Rattle.beacon.specs.Beacon.{beacon_too_large}
+use Rattle.octets.specs.Outcome.{Outcome}
 
 -- no part has a number too large
 pub record Fitting (x : Beacon) : Type 0 where
@@ -30,6 +30,6 @@ fitting x e =
     record { superframe = two.0; slots = two.1; pending = one.1 }
 
 -- a part of n bytes that fits and has room is stored whole
-pub whole_stored : (out b : List ℕ) (at n : ℕ) {large : Bool} {o : List ℕ} {r : ValueWritten} → large ≡ false → n ≤ length out - at →
-    r ≡ write_value large out at n → o ≡ after (value_outcome r) out at b → o ≡ laid out at b
+pub whole_stored : (out b : List ℕ) (at n : ℕ) {large : Bool} {o : List ℕ} {r : Outcome} → large ≡ false → n ≤ length out - at →
+    r ≡ write_value large out at n → o ≡ after r out at b → o ≡ laid out at b
 whole_stored out b at n fits room e f = f ∙ rw (e, fits, le-ltb (length out - at) n room)

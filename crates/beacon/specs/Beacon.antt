@@ -1,9 +1,8 @@
 -- A beacon's content, document 01, "Beacon layout" (IEEE 802.15.4-2011, 5.2.2.1): superframe specification, GTS
 -- information and pending addresses, side by side.
-use Rattle.std.specs.Prelude.{ℕ, ◌+◌, Bool, not, ◌||◌, List, [], ◌∷◌, ◌++◌, eqb}
-use Rattle.octets.specs.declared.{Outcome.Outcome, ValueWritten.ValueWritten}
-use Rattle.octets.specs.{Order.first, Value.write_value}
-use Rattle.octets.specs.Outcome.{accepted, refused}
+use Rattle.std.specs.Prelude.{ℕ, ◌+◌, Bool, ◌||◌, List, [], ◌∷◌, ◌++◌, is_err, Ok, Err}
+use Rattle.octets.specs.declared.Refusal.TheVariants.{Ended}
+use Rattle.octets.specs.{Order.first, Value.write_value, Outcome.Outcome}
 use Rattle.superframe.specs.declared.{SuperframeSpecification.SuperframeSpecification}
 use Rattle.superframe.specs.Superframe.{empty_superframe, superframe_in, read_superframe, superframe_bytes}
 use Rattle.superframe.specs.Superframe.{superframe_too_large}
@@ -35,13 +34,13 @@ beacon_length_in s at = 2 + time_slots_length_in s (at + 2) + pending_length_in 
 
 -- and what reading it there answers: refused where a part of it is
 abbrev pub refuses : Outcome → Bool
-refuses o = not (eqb o.number 0)
+refuses o = is_err o
 
 abbrev pub beacon_refused : BeaconRead
-beacon_refused = record { outcome = refused 1; beacon = empty_beacon }
+beacon_refused = record { outcome = Err Ended; beacon = empty_beacon }
 
 abbrev pub beacon_accepted : Beacon → ℕ → BeaconRead
-beacon_accepted x n = record { outcome = accepted n; beacon = x }
+beacon_accepted x n = record { outcome = Ok n; beacon = x }
 
 unfoldable pub read_beacon : List ℕ → ℕ → BeaconRead
 read_beacon s at =
@@ -70,5 +69,5 @@ beacon_too_large x =
     || time_slots_too_large x.guaranteed_time_slot_info
     || pending_too_large x.pending_address
 
-unfoldable pub write_beacon : Beacon → List ℕ → ℕ → ValueWritten
+unfoldable pub write_beacon : Beacon → List ℕ → ℕ → Outcome
 write_beacon x out at = write_value (beacon_too_large x) out at (beacon_size x)

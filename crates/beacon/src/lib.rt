@@ -4,53 +4,36 @@
 
 ghost use Rattle.std.specs.Prelude.{◌+◌, ◌-◌, ◌≤◌, false, ◌≡◌, length};
 ghost use Rattle.octets.specs.Buffer.{laid, after};
-ghost use Rattle.octets.specs.Value.{value_outcome};
-ghost use Rattle.beacon.specs.Beacon.{beacon_of, empty_beacon, beacon_refused, read_beacon, beacon_bytes, beacon_size};
+ghost use Rattle.beacon.specs.Beacon.{empty_beacon, beacon_refused, read_beacon, beacon_bytes, beacon_size};
 ghost use Rattle.beacon.specs.Beacon.{beacon_too_large, write_beacon};
 
-use octets::{Outcome, ValueWritten, left};
-use pending::{PendingAddress, PendingRead};
-use superframe::{SuperframeRead, SuperframeSpecification};
-use time_slots::{GuaranteedTimeSlotInformation, TimeSlotsRead};
+use octets::{Outcome, Refusal, left};
+use pending::PendingAddress;
+use superframe::SuperframeSpecification;
+use time_slots::GuaranteedTimeSlotInformation;
 
 // The three parts.
-#[derive(Clone, Copy)]
+#[derive(Clone, Copy, Debug, PartialEq, Eq)]
 pub struct Beacon {
     pub superframe_spec: SuperframeSpecification,
     pub guaranteed_time_slot_info: GuaranteedTimeSlotInformation,
     pub pending_address: PendingAddress,
 }
 
-// What reading a beacon answers; refused, with the empty one.
-#[derive(Clone, Copy)]
+// What reading a beacon answers; refused, with the empty one, which a Result would not hand out.
+#[derive(Clone, Copy, Debug, PartialEq, Eq)]
 pub struct BeaconRead {
     pub outcome: Outcome,
     pub beacon: Beacon,
-}
-
-// The beacon of the parts that were read.
-fn joined(superframe: SuperframeRead, slots: TimeSlotsRead, pending: PendingRead) -> Beacon
-    ensures { result ≡ beacon_of superframe.superframe_spec slots.guaranteed_time_slot_info
-        pending.pending_address }
-{
-    let superframe_spec = superframe.superframe_spec;
-    let guaranteed_time_slot_info = slots.guaranteed_time_slot_info;
-    let pending_address = pending.pending_address;
-    Beacon {
-        superframe_spec,
-        guaranteed_time_slot_info,
-        pending_address,
-    }
 }
 
 impl BeaconRead {
     fn refused() -> Self
         ensures { result ≡ beacon_refused }
     {
-        let beacon = Beacon::new();
         BeaconRead {
-            outcome: Outcome::refused(1),
-            beacon,
+            outcome: Err(Refusal::Ended),
+            beacon: Beacon::new(),
         }
     }
 }
@@ -60,13 +43,10 @@ impl Beacon {
     pub fn new() -> Self
         ensures { result ≡ empty_beacon }
     {
-        let superframe_spec = SuperframeSpecification::new();
-        let guaranteed_time_slot_info = GuaranteedTimeSlotInformation::new();
-        let pending_address = PendingAddress::new();
         Beacon {
-            superframe_spec,
-            guaranteed_time_slot_info,
-            pending_address,
+            superframe_spec: SuperframeSpecification::new(),
+            guaranteed_time_slot_info: GuaranteedTimeSlotInformation::new(),
+            pending_address: PendingAddress::new(),
         }
     }
 
@@ -75,39 +55,35 @@ impl Beacon {
         ensures { result ≡ read_beacon s.now at }
     {
         let superframe = SuperframeSpecification::read(s, at);
-        if superframe.outcome.number != 0 {
+        if superframe.outcome.is_err() {
             return BeaconRead::refused();
         }
         let slots = GuaranteedTimeSlotInformation::read(s, at + 2);
-        if slots.outcome.number != 0 {
+        let Ok(slots_length) = slots.outcome else {
             return BeaconRead::refused();
-        }
-        let pending = PendingAddress::read(s, at + 2 + slots.outcome.length);
-        if pending.outcome.number != 0 {
+        };
+        let pending = PendingAddress::read(s, at + 2 + slots_length);
+        let Ok(pending_length) = pending.outcome else {
             return BeaconRead::refused();
-        }
-        let length = 2 + slots.outcome.length + pending.outcome.length;
-        let beacon = joined(superframe, slots, pending);
+        };
         BeaconRead {
-            outcome: Outcome::accepted(length),
-            beacon,
+            outcome: Ok(2 + slots_length + pending_length),
+            beacon: Beacon {
+                superframe_spec: superframe.superframe_spec,
+                guaranteed_time_slot_info: slots.guaranteed_time_slot_info,
+                pending_address: pending.pending_address,
+            },
         }
     }
 
     // A part with a number too large: refusal 8.
+    #[tactic(auto, unfolding(crate::specs::Beacon::beacon_too_large))]
     fn too_large(self) -> bool
         ensures { result ≡ beacon_too_large self }
     {
-        let superframe = self.superframe_spec;
-        let slots = self.guaranteed_time_slot_info;
-        let pending = self.pending_address;
-        if superframe.too_large() {
-            return true;
-        }
-        if slots.too_large() {
-            return true;
-        }
-        pending.too_large()
+        self.superframe_spec.too_large()
+            || self.guaranteed_time_slot_info.too_large()
+            || self.pending_address.too_large()
     }
 
     // How many bytes it is written in. Asks that no number is too large.
@@ -116,9 +92,7 @@ impl Beacon {
         ensures value { result ≡ beacon_size self }
         ensures upper_bound { result ≤ 96 }
     {
-        let slots = self.guaranteed_time_slot_info;
-        let pending = self.pending_address;
-        2 + slots.size() + pending.size()
+        2 + self.guaranteed_time_slot_info.size() + self.pending_address.size()
     }
 
     // Stores it, part by part. Asks that no number is too large, and for that room.
@@ -127,28 +101,26 @@ impl Beacon {
         requires self_in_bounds { beacon_size self ≤ length out.old - at }
         ensures { out.new ≡ laid out.old at (beacon_bytes self) }
     {
-        let superframe = self.superframe_spec;
         let slots = self.guaranteed_time_slot_info;
-        let pending = self.pending_address;
-        superframe.write(out, at);
-        let next = at + 2;
-        slots.write(out, next);
-        pending.write(out, next + slots.size());
+        // No part refuses: none is too large, and there is room.
+        let _ = self.superframe_spec.write(out, at);
+        let _ = slots.write(out, at + 2);
+        let _ = self.pending_address.write(out, at + 2 + slots.size());
     }
 
     // Writes it at a place; refused, out keeps every byte.
-    pub fn write(self, out: &mut [u8], at: usize) -> ValueWritten
+    pub fn write(self, out: &mut [u8], at: usize) -> Outcome
         ensures value { result ≡ write_beacon self out.old at }
-        ensures out_after { out.new ≡ after (value_outcome result) out.old at (beacon_bytes self) }
+        ensures out_after { out.new ≡ after result out.old at (beacon_bytes self) }
     {
         if self.too_large() {
-            return ValueWritten::TooLarge;
+            return Err(Refusal::TooLarge);
         }
         let n = self.size();
         if left(out, at) < n {
-            return ValueWritten::Full;
+            return Err(Refusal::Ended);
         }
         self.put(out, at);
-        ValueWritten::Written(n)
+        Ok(n)
     }
 }

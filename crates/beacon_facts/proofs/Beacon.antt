@@ -6,11 +6,11 @@ use mathlib.Core.Bool.{false}
 use mathlib.Core.List.{List, [], ◌∷◌, ◌++◌}
 use mathlib.Core.Logic.{◌⊎◌, inl, inr}
 use mathlib.Core.Path.{◌≡◌, refl, sym, ap, ◌∙◌}
-use borrow.Author.Tests.{eqb-true, ltb-true, ltb-false}
-use lib.Dec.{eqb}
+use borrow.Author.Tests.{ltb-true, ltb-false}
 use lib.ListN.{length, length-append}
 use Rattle.octets.specs.Little.{Bytes}
 use Rattle.octets.specs.Order.{first}
+use Rattle.octets.specs.Outcome.{number_of, length_of}
 use Rattle.octets.specs.Part.{ends}
 use Rattle.octets.proofs.Little.{bytes_append}
 use Rattle.octets.proofs.Cases.{cases, holds?}
@@ -24,8 +24,9 @@ use Rattle.pending.proofs.Pending.{pending_read}
 use Rattle.beacon.specs.declared.Beacon.{Beacon}
 use Rattle.beacon.specs.declared.BeaconRead.{BeaconRead}
 use Rattle.beacon.specs.Beacon.{pending_place, beacon_of, beacon_in, beacon_length_in, beacon_refused, beacon_accepted, read_beacon, beacon_bytes}
-use Rattle.beacon.specs.Beacon.{beacon_size, beacon_too_large, write_beacon}
+use Rattle.beacon.specs.Beacon.{refuses, beacon_size, beacon_too_large, write_beacon}
 use Rattle.beacon.proofs.Content.{fitting}
+use Rattle.beacon.proofs.Parts.{accepting}
 use Rattle.beacon_facts.specs.Cleared.{beacon_cleared}
 use Rattle.beacon_facts.specs.Formats.{beacon}
 use Rattle.beacon_facts.proofs.Format.{Writes, Laws}
@@ -64,20 +65,17 @@ module _ (s : List ℕ) (at : ℕ) where
       ⊎ ((read_beacon s at ≡ beacon_accepted (beacon_in s at) (beacon_length_in s at)) × Found s at)
   unfolding read_beacon
   refused_or_found =
-      cases (holds? (eqb (read_superframe s at).outcome.number 0)) (λ one.
-      cases (holds? (eqb (read_time_slots s (at + 2)).outcome.number 0)) (λ two.
-      cases (holds? (eqb (read_pending s (pending_place s at)).outcome.number 0)) (λ three.
+      cases (holds? (refuses (read_superframe s at).outcome)) (λ one. inl (simp one)) (λ one.
+      cases (holds? (refuses (read_time_slots s (at + 2)).outcome)) (λ two. inl (simp (one, two))) (λ two.
+      cases (holds? (refuses (read_pending s (pending_place s at)).outcome)) (λ three. inl (simp (one, two, three))) (λ three.
       inr (
         simp (one, two, three),
         record {
-          superframe = (superframe_read s at (eqb-true _ 0 one)).1;
-          slots = (time_slots_read s (at + 2) (eqb-true _ 0 two)).1;
-          pending = (pending_read s (pending_place s at) (eqb-true _ 0 three)).1;
+          superframe = (superframe_read s at (accepting _ one)).1;
+          slots = (time_slots_read s (at + 2) (accepting _ two)).1;
+          pending = (pending_read s (pending_place s at) (accepting _ three)).1;
         },
-      ))
-      (λ three. inl (simp (one, two, three))))
-      (λ two. inl (simp (one, two))))
-      (λ one. inl (simp one))
+      ))))
 
   beacon_accepts : beacon_length_in s at ≤ length s - at → read_beacon s at ≡ beacon_accepted (beacon_in s at) (beacon_length_in s at)
   unfolding read_beacon
@@ -99,11 +97,11 @@ module _ (s : List ℕ) (at : ℕ) where
       (λ e. rw e (beacon_accepts (ltb-false _ _ e)))
 
   -- what was read was there
-  pub beacon_read : (read_beacon s at).outcome.number ≡ 0 →
+  pub beacon_read : number_of (read_beacon s at).outcome ≡ 0 →
       (read_beacon s at ≡ beacon_accepted (beacon_in s at) (beacon_length_in s at)) × Found s at
   beacon_read e =
       cases refused_or_found
-      (λ r. let one : ◌≡◌ {A = ℕ} 1 0 = ap (λ (r : BeaconRead). r.outcome.number) (sym r) ∙ e in absurd (omega arith))
+      (λ r. let one : ◌≡◌ {A = ℕ} 1 0 = ap (λ (r : BeaconRead). number_of r.outcome) (sym r) ∙ e in absurd (omega arith))
       (λ r. r)
 
   -- the beacon at a place: fits, and is written as it stood
@@ -291,11 +289,11 @@ beacon_laws =
     record {
       writes = beacon_writes;
       taken = λ s at x n b e.
-          let read = beacon_read s at (ap (λ (r : BeaconRead). r.outcome.number) e) in
+          let read = beacon_read s at (ap (λ (r : BeaconRead). number_of r.outcome) e) in
           let found = read.1 in
           let told = sym read.0 ∙ e in
           let value : beacon_in s at ≡ x = ap (λ (r : BeaconRead). r.beacon) told in
-          let count : beacon_length_in s at ≡ n = ap (λ (r : BeaconRead). r.outcome.length) told in
+          let count : beacon_length_in s at ≡ n = ap (λ (r : BeaconRead). length_of r.outcome) told in
           rw (sym value, sym count)
           (record {
             typed = beacon_typed s at found b;
@@ -318,7 +316,7 @@ beacon_laws =
     }
 
 -- a beacon that is read lies whole in the input
-pub beacon_within : (s : List ℕ) (at : ℕ) → (read_beacon s at).outcome.number ≡ 0 → (read_beacon s at).outcome.length ≤ length s - at
+pub beacon_within : (s : List ℕ) (at : ℕ) → number_of (read_beacon s at).outcome ≡ 0 → length_of (read_beacon s at).outcome ≤ length s - at
 beacon_within s at e =
     let q = beacon_read s at e in
     rw q.0 (all_found s at q.1)

@@ -11,6 +11,7 @@ use lib.ListN.{length, take, drop, length-append}
 use lib.Seq.{take-add, drop-drop}
 use Rattle.octets.specs.Bits.{bits}
 use Rattle.octets.specs.Little.{number, split, Bytes}
+use Rattle.octets.specs.Outcome.{number_of, length_of}
 use Rattle.octets.proofs.Each.{same}
 use Rattle.octets.proofs.Little.{split_length, split_bytes, bytes_append, number_again, number_small, number_more}
 use Rattle.time_slots.specs.declared.Direction.{Direction}
@@ -19,7 +20,8 @@ use Rattle.time_slots.specs.declared.GuaranteedTimeSlotDescriptor.{GuaranteedTim
 use Rattle.time_slots.specs.declared.DescriptorRead.{DescriptorRead}
 use Rattle.time_slots.specs.Descriptor.{descriptor_of, descriptor_in, read_descriptor, slot_byte, descriptor_bytes, descriptor_too_large}
 use Rattle.time_slots.specs.Descriptor.{write_descriptor}
-use Rattle.time_slots.proofs.Descriptor.{descriptor_length, fitting, descriptor_read}
+use Rattle.time_slots.specs.Width.{descriptor_length}
+use Rattle.time_slots.proofs.Descriptor.{fitting, descriptor_read}
 use Rattle.beacon_facts.specs.Cleared.{descriptor_cleared}
 use Rattle.beacon_facts.specs.Formats.{descriptor, DescriptorTyped}
 use Rattle.beacon_facts.proofs.Format.{Writes, Laws}
@@ -104,10 +106,10 @@ descriptor_laws =
     record {
       writes = descriptor_writes;
       taken = λ s at x n b e.
-          let there = descriptor_read s at (ap (λ (r : DescriptorRead). r.outcome.number) e) in
+          let there = descriptor_read s at (ap (λ (r : DescriptorRead). number_of r.outcome) e) in
           let told = sym there.0 ∙ e in
           let value : descriptor_in s at Receive ≡ x = ap (λ (r : DescriptorRead). r.slot) told in
-          let count : 3 ≡ n = ap (λ (r : DescriptorRead). r.outcome.length) told in
+          let count : 3 ≡ n = ap (λ (r : DescriptorRead). length_of r.outcome) told in
           rw (sym value, sym count)
           (record {
             typed = descriptor_typed s at Receive b there.1;

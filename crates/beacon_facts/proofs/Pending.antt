@@ -12,6 +12,7 @@ use lib.ListN.{length, get_or, take, drop, length-append}
 use lib.Seq.{take-add, drop-drop}
 use Rattle.octets.specs.Bits.{bits, clear}
 use Rattle.octets.specs.Little.{number, split, Bytes}
+use Rattle.octets.specs.Outcome.{number_of, length_of}
 use Rattle.octets.proofs.Each.{same}
 use Rattle.octets.proofs.Little.{split_length, split_bytes, bytes_append, number_back, number_again, number_small, number_more}
 use Rattle.identifiers.specs.declared.ShortAddress.{ShortAddress}
@@ -277,10 +278,10 @@ pending_laws =
     record {
       writes = pending_writes;
       taken = λ s at x n b e.
-          let found = pending_read s at (ap (λ (r : PendingRead). r.outcome.number) e) in
+          let found = pending_read s at (ap (λ (r : PendingRead). number_of r.outcome) e) in
           let told = sym found.0 ∙ e in
           let value : pending_in s at ≡ x = ap (λ (r : PendingRead). r.pending_address) told in
-          let count : pending_length_in s at ≡ n = ap (λ (r : PendingRead). r.outcome.length) told in
+          let count : pending_length_in s at ≡ n = ap (λ (r : PendingRead). length_of r.outcome) told in
           rw (sym value, sym count)
           (record {
             typed = pending_typed s at found.1 b;

@@ -10,6 +10,7 @@ use borrow.Author.Tests.{le-ltb}
 use lib.ListN.{length, length-append}
 use Rattle.octets.specs.Bits.{bits, bit, bit_of, clear}
 use Rattle.octets.specs.Little.{number, split, Bytes}
+use Rattle.octets.specs.Outcome.{number_of, length_of}
 use Rattle.octets.proofs.Bits.{bit_back, bit_small}
 use Rattle.octets.proofs.Each.{same}
 use Rattle.octets.proofs.Little.{split_length, split_bytes, bytes_append, number_more}
@@ -113,10 +114,10 @@ superframe_laws =
     record {
       writes = superframe_writes;
       taken = λ s at x n b e.
-          let there = superframe_read s at (ap (λ (r : SuperframeRead). r.outcome.number) e) in
+          let there = superframe_read s at (ap (λ (r : SuperframeRead). number_of r.outcome) e) in
           let told = sym there.0 ∙ e in
           let value : superframe_in s at ≡ x = ap (λ (r : SuperframeRead). r.superframe_spec) told in
-          let count : 2 ≡ n = ap (λ (r : SuperframeRead). r.outcome.length) told in
+          let count : 2 ≡ n = ap (λ (r : SuperframeRead). length_of r.outcome) told in
           rw (sym value, sym count)
           (record {
             typed = tt;

@@ -14,6 +14,7 @@ use lib.Pow.{shr-shr, pow_mono}
 use lib.Seq.{get_or-take, length-take-le}
 use Rattle.octets.specs.Bits.{bits, bit, bit_of, clear}
 use Rattle.octets.specs.Little.{number, split, Bytes}
+use Rattle.octets.specs.Outcome.{number_of, length_of}
 use Rattle.octets.proofs.Bits.{bit_back, bit_small}
 use Rattle.octets.proofs.Each.{same}
 use Rattle.octets.proofs.Little.{split_length, split_bytes, bytes_append, number_more}
@@ -24,7 +25,7 @@ use Rattle.time_slots.specs.declared.Direction.TheVariants.{Receive, Transmit}
 use Rattle.time_slots.specs.declared.GuaranteedTimeSlotDescriptor.{GuaranteedTimeSlotDescriptor}
 use Rattle.time_slots.specs.Direction.{direction_bit, direction_of}
 use Rattle.time_slots.specs.Descriptor.{empty_descriptor, descriptor_in, descriptor_bytes, descriptor_too_large}
-use Rattle.time_slots.proofs.Descriptor.{descriptor_length}
+use Rattle.time_slots.specs.Width.{descriptor_length}
 use Rattle.time_slots.specs.declared.GuaranteedTimeSlotInformation.{GuaranteedTimeSlotInformation}
 use Rattle.time_slots.specs.declared.TimeSlotsRead.{TimeSlotsRead}
 use Rattle.time_slots.specs.TimeSlots.{slots_length, slot_at, slots_in, slot_count_in, time_slots_in, time_slots_length_in}
@@ -307,10 +308,10 @@ time_slots_laws =
     record {
       writes = time_slots_writes;
       taken = λ s at x n b e.
-          let found = time_slots_read s at (ap (λ (r : TimeSlotsRead). r.outcome.number) e) in
+          let found = time_slots_read s at (ap (λ (r : TimeSlotsRead). number_of r.outcome) e) in
           let told = sym found.0 ∙ e in
           let value : time_slots_in s at ≡ x = ap (λ (r : TimeSlotsRead). r.guaranteed_time_slot_info) told in
-          let count : time_slots_length_in s at ≡ n = ap (λ (r : TimeSlotsRead). r.outcome.length) told in
+          let count : time_slots_length_in s at ≡ n = ap (λ (r : TimeSlotsRead). length_of r.outcome) told in
           let there = found.1 in
           rw (sym value, sym count)
           (record {

@@ -7,11 +7,11 @@ use mathlib.Core.List.{List, ◌++◌}
 use mathlib.Core.Path.{◌≡◌, sym, ap, ◌∙◌}
 use lib.ListN.{length, take, drop}
 use lib.Seq.{length-take-le}
+use Rattle.std.specs.Prelude.{Ok}
 use Rattle.octets.specs.Buffer.{laid}
 use Rattle.octets.specs.Little.{Bytes}
+use Rattle.octets.specs.Outcome.{number_of, length_of}
 use Rattle.octets.proofs.Buffer.{laid_length, laid_again}
-use Rattle.octets.proofs.Buffer.{laid_length}
-use Rattle.octets.specs.declared.ValueWritten.TheVariants.{Written}
 use Rattle.time_slots.specs.TimeSlots.{slots_length, slot_count_in}
 use Rattle.beacon.specs.declared.Beacon.{Beacon}
 use Rattle.beacon.specs.declared.BeaconRead.{BeaconRead}
@@ -71,12 +71,12 @@ pub beacon_occupies : (s : List ℕ) (at : ℕ) (x : Beacon) (n : ℕ) → read_
     (4 ≤ n) × (n ≤ 96) × (at + n ≤ length s)
 unfolding beacon_length_in
 beacon_occupies s at x n e =
-    let read = beacon_read s at (ap (λ (r : BeaconRead). r.outcome.number) e) in
-    let count : beacon_length_in s at ≡ n = ap (λ (r : BeaconRead). r.outcome.length) (sym read.0 ∙ e) in
+    let read = beacon_read s at (ap (λ (r : BeaconRead). number_of r.outcome) e) in
+    let count : beacon_length_in s at ≡ n = ap (λ (r : BeaconRead). length_of r.outcome) (sym read.0 ∙ e) in
     rw (sym count) (omega arith, beacon_most s at, omega (arith, all_found s at read.1))
 
 -- an accepted writing stores the bytes
-after_stored : (x : Beacon) (n : ℕ) (out : List ℕ) (to : ℕ) → write_beacon x out to ≡ Written n →
+after_stored : (x : Beacon) (n : ℕ) (out : List ℕ) (to : ℕ) → write_beacon x out to ≡ Ok n →
     beacon_after x out to ≡ laid out to (beacon_bytes x)
 after_stored x n out to e = rw e
 
@@ -89,7 +89,7 @@ round_trip s at x n out to b e room =
     let parted = left ∙ trip.buffer out to room in
     let place : length (take to out) ≡ to = length-take-le to out (omega arith) in
     let same : length (beacon_after x out to) ≡ length out = rw left (laid_length out to (beacon_bytes x)) in
-    let once_more : write_beacon x (beacon_after x out to) to ≡ Written n = trip.accepted (beacon_after x out to) to (omega arith) in
+    let once_more : write_beacon x (beacon_after x out to) to ≡ Ok n = trip.accepted (beacon_after x out to) to (omega arith) in
     record {
       within = (beacon_occupies s at x n e).2;
       accepted = accepted;

@@ -1,8 +1,8 @@
 -- What is demanded behind a GTS header, and where it tells. Document 02, request 2: "For n > 0 let it demand 1+3n after its
 -- header .. Whole beacons answer as before; the departure from the crate is listed". The crate's demand, document 01's
 -- "2+3n", is stated here, to be held beside the reader's: no reader has it.
-use Rattle.std.specs.Prelude.{ℕ, zero, suc, ◌+◌, ◌-◌, ◌*◌, Bool, ◌&&◌, List, [], ◌∷◌, length, ltb, eqb}
-use Rattle.octets.specs.{Order.first, Outcome.accepted, Part.ends}
+use Rattle.std.specs.Prelude.{ℕ, zero, suc, ◌+◌, ◌-◌, ◌*◌, Bool, ◌&&◌, List, [], ◌∷◌, length, ltb, eqb, Ok}
+use Rattle.octets.specs.{Order.first, Part.ends}
 use Rattle.superframe.specs.Superframe.{read_superframe}
 use Rattle.time_slots.specs.declared.{TimeSlotsRead.TimeSlotsRead}
 use Rattle.time_slots.specs.TimeSlots.{slot_count_in, time_slots_in, time_slots_length_in, time_slots_refused}
@@ -23,7 +23,7 @@ demanding_time_slots demand s at =
     (ends s at (1 + demand (slot_count_in s at)), time_slots_refused) ∷
     []
     )
-    (record { outcome = accepted (time_slots_length_in s at); guaranteed_time_slot_info = time_slots_in s at })
+    (record { outcome = Ok (time_slots_length_in s at); guaranteed_time_slot_info = time_slots_in s at })
 
 -- what reading a beacon at a place answers, given what reading its GTS information does
 abbrev pub beacon_given : TimeSlotsRead → List ℕ → ℕ → BeaconRead

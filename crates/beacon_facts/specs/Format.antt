@@ -1,9 +1,7 @@
 -- Demand 3 for any part that can be read and written: what is promised of a value that was read, and of a value that is
 -- written.
-use Rattle.std.specs.Prelude.{ℕ, ◌+◌, ◌-◌, ◌≤◌, Bool, false, List, ◌++◌, ◌≡◌, length, take, drop}
-use Rattle.octets.specs.declared.{ValueWritten.ValueWritten}
-use Rattle.octets.specs.{Buffer.laid, Buffer.after, Little.Bytes, Value.value_outcome}
-use Rattle.octets.specs.declared.ValueWritten.TheVariants.{Written}
+use Rattle.std.specs.Prelude.{ℕ, ◌+◌, ◌-◌, ◌≤◌, Bool, false, List, ◌++◌, ◌≡◌, length, take, drop, Ok}
+use Rattle.octets.specs.{Buffer.laid, Buffer.after, Little.Bytes, Outcome.Outcome}
 
 -- the definitions of one part: values X, reader's answers R
 pub record Format (X R : Type 0) : Type 1 where
@@ -11,7 +9,7 @@ pub record Format (X R : Type 0) : Type 1 where
   pub read : List ℕ → ℕ → R
   pub accepts : X → ℕ → R
   -- what writing answers: refusal 8, the bytes and how many they are
-  pub write : X → List ℕ → ℕ → ValueWritten
+  pub write : X → List ℕ → ℕ → Outcome
   pub too_large : X → Bool
   pub bytes : X → List ℕ
   pub size : X → ℕ
@@ -27,7 +25,7 @@ pub record Rewritten {X R : Type 0} (F : Format X R) (s : List ℕ) (at : ℕ) (
   -- never more than the input
   pub within : n ≤ length s - at
   -- x is written wherever there is room: as many bytes, those that were read but for the bits cleared
-  pub accepted : (out : List ℕ) (to : ℕ) → n ≤ length out - to → F.write x out to ≡ Written n
+  pub accepted : (out : List ℕ) (to : ℕ) → n ≤ length out - to → F.write x out to ≡ Ok n
   pub long : length (F.bytes x) ≡ n
   pub written : F.bytes x ≡ F.cleared s at
   -- stored into a buffer, what lies before and behind them in it stays
@@ -60,4 +58,4 @@ FromRecord {X} F = (x : X) → F.Typed x → F.too_large x ≡ false → Returne
 abbrev pub FromBuffer : {X R : Type 0} → Format X R → Type 0
 FromBuffer {X} F =
     (x : X) → F.Typed x → F.too_large x ≡ false → (out : List ℕ) (to : ℕ) → to + F.size x ≤ length out →
-    F.read (after (value_outcome (F.write x out to)) out to (F.bytes x)) to ≡ F.accepts (F.read_back x) (F.size x)
+    F.read (after (F.write x out to) out to (F.bytes x)) to ≡ F.accepts (F.read_back x) (F.size x)

@@ -1,6 +1,5 @@
 -- The beacon and each of its parts as formats.
-use Rattle.std.specs.Prelude.{ℕ, ◌^◌, ◌<◌, List, ◌≡◌, length, get_or}
-use Rattle.octets.specs.Outcome.{accepted}
+use Rattle.std.specs.Prelude.{ℕ, ◌^◌, ◌<◌, List, ◌≡◌, length, get_or, Ok}
 use Rattle.identifiers.specs.declared.{ShortAddress.ShortAddress, ExtendedAddress.ExtendedAddress}
 use Rattle.seven_places.specs.Seven.{emptied}
 use Rattle.superframe.specs.declared.{SuperframeSpecification.SuperframeSpecification, SuperframeRead.SuperframeRead}
@@ -28,7 +27,7 @@ abbrev pub superframe : Format SuperframeSpecification SuperframeRead
 superframe =
     record {
       read = read_superframe;
-      accepts = λ x n. record { outcome = accepted n; superframe_spec = x };
+      accepts = λ x n. record { outcome = Ok n; superframe_spec = x };
       write = write_superframe;
       too_large = superframe_too_large;
       bytes = superframe_bytes;
@@ -49,7 +48,7 @@ abbrev pub descriptor : Format GuaranteedTimeSlotDescriptor DescriptorRead
 descriptor =
     record {
       read = read_descriptor;
-      accepts = λ x n. record { outcome = accepted n; slot = x };
+      accepts = λ x n. record { outcome = Ok n; slot = x };
       write = write_descriptor;
       too_large = descriptor_too_large;
       bytes = descriptor_bytes;
@@ -73,7 +72,7 @@ abbrev pub time_slots : Format GuaranteedTimeSlotInformation TimeSlotsRead
 time_slots =
     record {
       read = read_time_slots;
-      accepts = λ x n. record { outcome = accepted n; guaranteed_time_slot_info = x };
+      accepts = λ x n. record { outcome = Ok n; guaranteed_time_slot_info = x };
       write = write_time_slots;
       too_large = time_slots_too_large;
       bytes = time_slots_bytes;
@@ -97,7 +96,7 @@ abbrev pub pending : Format PendingAddress PendingRead
 pending =
     record {
       read = read_pending;
-      accepts = λ x n. record { outcome = accepted n; pending_address = x };
+      accepts = λ x n. record { outcome = Ok n; pending_address = x };
       write = write_pending;
       too_large = pending_too_large;
       bytes = pending_bytes;

@@ -4,10 +4,9 @@
 -- no writer has it.
 use Rattle.std.specs.Prelude.{ℕ, ◌+◌, ◌*◌, cond, List, [], ◌∷◌, ◌++◌, map, eqb, take, drop}
 use Rattle.octets.specs.Words.{flat_map}
-use Rattle.octets.specs.declared.{Outcome.Outcome, ValueWritten.ValueWritten}
 use Rattle.octets.specs.Bits.{bits, bit}
 use Rattle.octets.specs.Little.{number, split}
-use Rattle.octets.specs.{Buffer.after, Order.first, Value.value_outcome}
+use Rattle.octets.specs.{Buffer.after, Order.first, Outcome.Outcome}
 use Rattle.seven_places.specs.Seven.{seven}
 use Rattle.superframe.specs.Superframe.{superframe_in, read_superframe, superframe_bytes}
 use Rattle.time_slots.specs.declared.{Direction.Direction}
@@ -79,7 +78,7 @@ beacon_bytes_in_sense sense x =
 -- read at a place and written into a buffer, both in one sense: what reading and writing answer, and the buffer
 pub record Rewriting : Type 0 where
   pub read : Outcome
-  pub written : ValueWritten
+  pub written : Outcome
   pub buffer : List ℕ
 
 abbrev pub writing_in_sense : Sense → BeaconRead → List ℕ → ℕ → Rewriting
@@ -88,7 +87,7 @@ writing_in_sense sense r out to =
     record {
       read = r.outcome;
       written = written;
-      buffer = after (value_outcome written) out to (beacon_bytes_in_sense sense r.beacon);
+      buffer = after written out to (beacon_bytes_in_sense sense r.beacon);
     }
 
 abbrev pub rewriting_in_sense : Sense → List ℕ → ℕ → List ℕ → ℕ → Rewriting

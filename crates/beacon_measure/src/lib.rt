@@ -1,4 +1,4 @@
-// Number and length of the beacon at a place of a slice, told by the counts in its two headers. No record is made.
+// Length or refusal of the beacon at a place of a slice, told by the counts in its two headers. No record is made.
 #![tactic(auto)]
 
 ghost use Rattle.std.specs.Prelude.{◌≤◌, ◌≡◌};
@@ -6,7 +6,7 @@ ghost use Rattle.time_slots.specs.TimeSlots.{time_slots_length_in};
 ghost use Rattle.pending.specs.Pending.{pending_length_in};
 ghost use Rattle.beacon.specs.Beacon.{read_beacon};
 
-use octets::{Outcome, left, u8_at};
+use octets::{Outcome, Refusal, left, u8_at};
 use time_slots::slots_length;
 
 // Bytes of the GTS information at a place, by its header; 1 where that is not there.
@@ -26,22 +26,23 @@ fn pending_length(s: &[u8], at: usize) -> usize
     1 + (2 * (header % 8) + 8 * (header / 16 % 8))
 }
 
-// What reading the beacon at a place answers: 0 and its length, or 1 and 0 where its bytes are not all there.
+// What reading the beacon at a place answers: its length, or refusal 1 where its bytes are not all there.
+#[tactic(auto, unfolding(beacon::specs::Beacon::beacon_length_in), using(crate::proofs::BeaconLength::told))]
 pub fn measure_beacon(s: &[u8], at: usize) -> Outcome
     ensures { result ≡ (read_beacon s.now at).outcome }
 {
     let there = left(s, at);
     if there < 4 {
-        return Outcome::refused(1);
+        return Err(Refusal::Ended);
     }
     let slots = 2 + time_slots_length(s, at + 2);
     // Without its pending header a beacon is refused at once.
     if there < slots + 1 {
-        return Outcome::refused(1);
+        return Err(Refusal::Ended);
     }
     let n = slots + pending_length(s, at + slots);
     if there < n {
-        return Outcome::refused(1);
+        return Err(Refusal::Ended);
     }
-    Outcome::accepted(n)
+    Ok(n)
 }

@@ -1,100 +1,101 @@
-// PAN ids, short and extended addresses: dumped, built from their dumps, read and written. The addresses of a header:
-// dumped, and built from their dumps.
-use crate::ask::Ask;
-use crate::places::{u8_at, u16_at, u64_at};
-use crate::text::{put_reading, put_rewriting, put_u8, put_u16, put_u64};
-use address::{Address, OptionalAddress};
-use identifiers::{
-    ExtendedAddress, ExtendedAddressRead, PanId, PanIdRead, ShortAddress, ShortAddressRead,
-};
+// PAN ids, short and extended addresses, and the addresses of a header.
+use crate::ask::{Ask, Record};
+use crate::dump::{Dump, Dumped};
+use crate::text::Text;
+use address::{Address, mode_of, shared_pan};
+use identifiers::{ExtendedAddress, Identifier, PanId, ShortAddress};
+use octets::{Outcome, Refusal};
 
-pub(crate) fn dump_pan_id(pan_id: PanId, out: &mut [u8], at: usize) -> usize {
-    put_u16(pan_id.0, out, at)
+// An identifier at a place, and how many bytes it takes.
+fn identifier_at<T: Identifier>(s: &[u8], place: usize) -> Result<(T, usize), Refusal> {
+    T::read(s, place).map(|identifier| (identifier, T::WIDTH))
 }
 
-pub(crate) fn build_pan_id(s: &[u8]) -> PanId {
-    PanId(u16_at(s, 0))
-}
+// Each of the three has an impl of its own: one for every `Identifier` would conflict with those of the other records.
+impl Dumped for PanId {
+    fn dump(self, text: &mut Text<'_>) {
+        text.put_hex(&self.0.to_le_bytes());
+    }
 
-pub(crate) fn read_pan_id(s: &[u8], ask: Ask, room: &mut [u8], out: &mut [u8], at: usize) -> usize {
-    let read = PanId::read(s, ask.place);
-    let next = put_reading(read.outcome(), out, at);
-    let PanIdRead::Read(pan_id) = read else {
-        return next;
-    };
-    let next = dump_pan_id(pan_id, out, next);
-    let written = pan_id.write(room, ask.at);
-    put_rewriting(written.outcome(), room, out, next)
-}
-
-pub(crate) fn dump_short(short: ShortAddress, out: &mut [u8], at: usize) -> usize {
-    put_u16(short.0, out, at)
-}
-
-pub(crate) fn build_short(s: &[u8]) -> ShortAddress {
-    ShortAddress(u16_at(s, 0))
-}
-
-pub(crate) fn read_short(s: &[u8], ask: Ask, room: &mut [u8], out: &mut [u8], at: usize) -> usize {
-    let read = ShortAddress::read(s, ask.place);
-    let next = put_reading(read.outcome(), out, at);
-    let ShortAddressRead::Read(short) = read else {
-        return next;
-    };
-    let next = dump_short(short, out, next);
-    let written = short.write(room, ask.at);
-    put_rewriting(written.outcome(), room, out, next)
-}
-
-pub(crate) fn dump_extended(extended: ExtendedAddress, out: &mut [u8], at: usize) -> usize {
-    put_u64(extended.0, out, at)
-}
-
-pub(crate) fn build_extended(s: &[u8]) -> ExtendedAddress {
-    ExtendedAddress(u64_at(s, 0))
-}
-
-pub(crate) fn read_extended(
-    s: &[u8],
-    ask: Ask,
-    room: &mut [u8],
-    out: &mut [u8],
-    at: usize,
-) -> usize {
-    let read = ExtendedAddress::read(s, ask.place);
-    let next = put_reading(read.outcome(), out, at);
-    let ExtendedAddressRead::Read(extended) = read else {
-        return next;
-    };
-    let next = dump_extended(extended, out, next);
-    let written = extended.write(room, ask.at);
-    put_rewriting(written.outcome(), room, out, next)
-}
-
-// A short or an extended address as a number, 0 where there is none.
-fn number_of(address: OptionalAddress) -> u64 {
-    let OptionalAddress::Present(present) = address else {
-        return 0;
-    };
-    match present {
-        Address::Short(_, short) => short.0 as u64,
-        Address::Extended(_, extended) => extended.0,
+    fn build(dump: &mut Dump<'_>) -> Self {
+        PanId(dump.u16())
     }
 }
 
-pub(crate) fn dump_address(address: OptionalAddress, out: &mut [u8], at: usize) -> usize {
-    let mode = address.mode();
-    let pan_id = address.shared_pan();
-    let next = put_u8(mode.to_bits(), out, at);
-    let next = dump_pan_id(pan_id, out, next);
-    put_u64(number_of(address), out, next)
+impl Record for PanId {
+    fn reading(s: &[u8], place: usize) -> Result<(Self, usize), Refusal> {
+        identifier_at(s, place)
+    }
+
+    fn writing(self, ask: Ask, room: &mut [u8]) -> Outcome {
+        self.write(room, ask.at)
+    }
 }
 
-pub(crate) fn build_address(s: &[u8]) -> OptionalAddress {
-    let pan_id = PanId(u16_at(s, 1));
-    match u8_at(s, 0) {
-        2 => OptionalAddress::Present(Address::Short(pan_id, ShortAddress(u16_at(s, 3)))),
-        3 => OptionalAddress::Present(Address::Extended(pan_id, ExtendedAddress(u64_at(s, 3)))),
-        _ => OptionalAddress::Absent,
+impl Dumped for ShortAddress {
+    fn dump(self, text: &mut Text<'_>) {
+        text.put_hex(&self.0.to_le_bytes());
+    }
+
+    fn build(dump: &mut Dump<'_>) -> Self {
+        ShortAddress(dump.u16())
+    }
+}
+
+impl Record for ShortAddress {
+    fn reading(s: &[u8], place: usize) -> Result<(Self, usize), Refusal> {
+        identifier_at(s, place)
+    }
+
+    fn writing(self, ask: Ask, room: &mut [u8]) -> Outcome {
+        self.write(room, ask.at)
+    }
+}
+
+impl Dumped for ExtendedAddress {
+    fn dump(self, text: &mut Text<'_>) {
+        text.put_hex(&self.0.to_le_bytes());
+    }
+
+    fn build(dump: &mut Dump<'_>) -> Self {
+        ExtendedAddress(dump.u64())
+    }
+}
+
+impl Record for ExtendedAddress {
+    fn reading(s: &[u8], place: usize) -> Result<(Self, usize), Refusal> {
+        identifier_at(s, place)
+    }
+
+    fn writing(self, ask: Ask, room: &mut [u8]) -> Outcome {
+        self.write(room, ask.at)
+    }
+}
+
+// Its mode, its PAN id, and the address as a number, 0 where there is none.
+impl Dumped for Option<Address> {
+    fn dump(self, text: &mut Text<'_>) {
+        let number = match self {
+            Some(Address::Short(_, short)) => short.0 as u64,
+            Some(Address::Extended(_, extended)) => extended.0,
+            None => 0,
+        };
+        text.put_u8(u8::from(mode_of(self)));
+        shared_pan(self).dump(text);
+        text.put_hex(&number.to_le_bytes());
+    }
+
+    fn build(dump: &mut Dump<'_>) -> Self {
+        let mode = dump.u8();
+        let pan_id = PanId::build(dump);
+        let number = dump.u64();
+        match mode {
+            2 => {
+                let short = ShortAddress((number % 65536) as u16);
+                Some(Address::Short(pan_id, short))
+            }
+            3 => Some(Address::Extended(pan_id, ExtendedAddress(number))),
+            _ => None,
+        }
     }
 }

@@ -1,41 +1,39 @@
-// Beacons: dumped, built from their dumps, read and written.
-use crate::ask::Ask;
-use crate::pending_addresses::{build_pending, dump_pending};
-use crate::places::part;
-use crate::slots::{SLOTS, build_slots, dump_slots};
-use crate::superframes::{SUPERFRAME, build_superframe, dump_superframe};
-use crate::text::{put_reading, put_rewriting};
+// Beacons.
+use crate::ask::{Ask, Record};
+use crate::dump::{Dump, Dumped};
+use crate::text::Text;
 use beacon::Beacon;
+use octets::{Outcome, Refusal};
+use pending::PendingAddress;
+use superframe::SuperframeSpecification;
+use time_slots::GuaranteedTimeSlotInformation;
 
-fn dump_beacon(beacon: Beacon, out: &mut [u8], at: usize) -> usize {
-    let superframe = beacon.superframe_spec;
-    let info = beacon.guaranteed_time_slot_info;
-    let pending = beacon.pending_address;
-    let next = dump_superframe(superframe, out, at);
-    let next = dump_slots(info, out, next);
-    dump_pending(pending, out, next)
-}
+impl Dumped for Beacon {
+    fn dump(self, text: &mut Text<'_>) {
+        let superframe = self.superframe_spec;
+        let info = self.guaranteed_time_slot_info;
+        let pending = self.pending_address;
+        superframe.dump(text);
+        info.dump(text);
+        pending.dump(text);
+    }
 
-pub(crate) fn build_beacon(s: &[u8]) -> Beacon {
-    let superframe_spec = build_superframe(s);
-    let guaranteed_time_slot_info = build_slots(part(s, SUPERFRAME));
-    let pending_address = build_pending(part(s, SUPERFRAME + SLOTS));
-    Beacon {
-        superframe_spec,
-        guaranteed_time_slot_info,
-        pending_address,
+    fn build(dump: &mut Dump<'_>) -> Self {
+        Beacon {
+            superframe_spec: SuperframeSpecification::build(dump),
+            guaranteed_time_slot_info: GuaranteedTimeSlotInformation::build(dump),
+            pending_address: PendingAddress::build(dump),
+        }
     }
 }
 
-pub(crate) fn read_beacon(s: &[u8], ask: Ask, room: &mut [u8], out: &mut [u8], at: usize) -> usize {
-    let read = Beacon::read(s, ask.place);
-    let outcome = read.outcome;
-    let beacon = read.beacon;
-    let next = put_reading(outcome, out, at);
-    if outcome.number != 0 {
-        return next;
+impl Record for Beacon {
+    fn reading(s: &[u8], place: usize) -> Result<(Self, usize), Refusal> {
+        let read = Beacon::read(s, place);
+        read.outcome.map(|n| (read.beacon, n))
     }
-    let next = dump_beacon(beacon, out, next);
-    let written = beacon.write(room, ask.at);
-    put_rewriting(written.outcome(), room, out, next)
+
+    fn writing(self, ask: Ask, room: &mut [u8]) -> Outcome {
+        self.write(room, ask.at)
+    }
 }

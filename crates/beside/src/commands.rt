@@ -1,110 +1,86 @@
 // The answer to a command line (oracle/FORMAT.md).
-use crate::addresses::{
-    build_extended, build_pan_id, build_short, read_extended, read_pan_id, read_short,
-};
-use crate::ask::{Ask, FILL, MOST_ROOM, PREFIX, room_of};
-use crate::beacons::{build_beacon, read_beacon};
-use crate::headers::{build_header, read_header, write_header};
-use crate::pending_addresses::{build_pending, read_pending};
-use crate::places::{first, part, u8_at};
-use crate::security_parts::{
-    build_control, build_security, put_size, read_control, read_security, write_security,
-};
-use crate::slots::{build_slot, build_slots, read_slot, read_slots};
-use crate::superframes::{build_superframe, read_superframe};
-use crate::text::{put, put_decimal, put_hex, put_outcome, put_tab, put_writing};
-use crate::values::{dump_constants, dump_mode, dump_orders, dump_type, dump_version};
-use octets::Outcome;
+use crate::ask::{Ask, FILL, MOST_ROOM};
+use crate::dump::{Dump, Dumped};
+use crate::text::Text;
+use crate::values::{dump_constants, dump_orders, known};
+use beacon::Beacon;
+use frame_control::{AddressMode, FrameType, FrameVersion};
+use header::Header;
+use identifiers::{ExtendedAddress, PanId, ShortAddress};
+use octets::u8_at;
+use pending::PendingAddress;
+use security::AuxiliarySecurityHeader;
+use security_control::SecurityControl;
+use superframe::SuperframeSpecification;
+use time_slots::{GuaranteedTimeSlotDescriptor, GuaranteedTimeSlotInformation};
 
 // The most bytes that a line can hold in hex.
 const MOST_BYTES: usize = 512;
 
-// Writes the record that a capital is given. A letter that stands for nothing is taken for a beacon's.
-fn write_built(kind: u8, s: &[u8], ask: Ask, room: &mut [u8]) -> Outcome {
-    match kind {
-        b'H' => write_header(build_header(s), ask, room),
-        b'S' => write_security(build_security(s), ask, room),
-        b'C' => build_control(s).write(room, ask.at).outcome(),
-        b'N' => build_pan_id(s).write(room, ask.at).outcome(),
-        b'A' => build_short(s).write(room, ask.at).outcome(),
-        b'X' => build_extended(s).write(room, ask.at).outcome(),
-        b'F' => build_superframe(s).write(room, ask.at).outcome(),
-        b'E' => build_slot(s).write(room, ask.at).outcome(),
-        b'G' => build_slots(s).write(room, ask.at).outcome(),
-        b'Q' => build_pending(s).write(room, ask.at).outcome(),
-        _ => build_beacon(s).write(room, ask.at).outcome(),
-    }
-}
-
-// A capital. A security header tells its size first.
-fn put_built(kind: u8, s: &[u8], ask: Ask, room: &mut [u8], out: &mut [u8], at: usize) -> usize {
-    let outcome = write_built(kind, s, ask, room);
-    if kind != b'S' {
-        return put_writing(outcome, room, out, at);
-    }
-    let next = put_size(build_security(s), out, at);
-    put_writing(outcome, room, out, next)
-}
-
-// A small letter that reads a record and writes it again, or a capital.
-fn put_record(kind: u8, s: &[u8], ask: Ask, room: &mut [u8], out: &mut [u8], at: usize) -> usize {
-    match kind {
-        b'h' => read_header(s, ask, room, out, at),
-        b's' => read_security(s, ask, room, out, at),
-        b'c' => read_control(s, ask, room, out, at),
-        b'n' => read_pan_id(s, ask, room, out, at),
-        b'a' => read_short(s, ask, room, out, at),
-        b'x' => read_extended(s, ask, room, out, at),
-        b'f' => read_superframe(s, ask, room, out, at),
-        b'e' => read_slot(s, ask, room, out, at),
-        b'g' => read_slots(s, ask, room, out, at),
-        b'q' => read_pending(s, ask, room, out, at),
-        b'b' => read_beacon(s, ask, room, out, at),
-        _ => put_built(kind, s, ask, room, out, at),
+// A small letter reads a record and writes it again, and its capital writes the record that it is given. A letter that
+// stands for nothing is taken for a beacon's capital.
+fn put_record(kind: u8, dump: Dump<'_>, ask: Ask, room: &mut [u8], text: &mut Text<'_>) {
+    let is_small = kind.is_ascii_lowercase();
+    match kind.to_ascii_lowercase() {
+        b'h' => ask.answer::<Header>(is_small, dump, room, text),
+        b's' => ask.answer::<AuxiliarySecurityHeader>(is_small, dump, room, text),
+        b'c' => ask.answer::<SecurityControl>(is_small, dump, room, text),
+        b'n' => ask.answer::<PanId>(is_small, dump, room, text),
+        b'a' => ask.answer::<ShortAddress>(is_small, dump, room, text),
+        b'x' => ask.answer::<ExtendedAddress>(is_small, dump, room, text),
+        b'f' => ask.answer::<SuperframeSpecification>(is_small, dump, room, text),
+        b'e' => ask.answer::<GuaranteedTimeSlotDescriptor>(is_small, dump, room, text),
+        b'g' => ask.answer::<GuaranteedTimeSlotInformation>(is_small, dump, room, text),
+        b'q' => ask.answer::<PendingAddress>(is_small, dump, room, text),
+        b'b' => ask.answer::<Beacon>(is_small, dump, room, text),
+        _ => ask.build::<Beacon>(dump, room, text),
     }
 }
 
 // The same with the room that the command asks for, and what stands behind its first bytes.
-fn put_asked(kind: u8, bytes: &[u8], out: &mut [u8], at: usize) -> usize {
+fn put_asked(kind: u8, bytes: &[u8], text: &mut Text<'_>) {
+    let mut dump = Dump::of(bytes);
+    let ask = Ask::of(&mut dump);
     let mut room = [FILL; MOST_ROOM];
-    let n = room_of(bytes);
-    let ask = Ask::of(bytes);
-    put_record(kind, part(bytes, PREFIX), ask, &mut room[..n], out, at)
+    let n = ask.room.min(MOST_ROOM);
+    put_record(kind, dump, ask, &mut room[..n], text);
 }
 
 // The size that a header's record tells by itself.
-fn put_header_size(record: &[u8], out: &mut [u8], at: usize) -> usize {
-    let header = build_header(record);
-    put_decimal(header.get_octet_size(), out, at)
+fn put_header_size(bytes: &[u8], text: &mut Text<'_>) {
+    let header = Header::build(&mut Dump::of(bytes));
+    text.put_decimal(header.get_octet_size());
 }
 
 // The payload view.
-fn put_view(frame: &[u8], out: &mut [u8], at: usize) -> usize {
+fn put_view(frame: &[u8], text: &mut Text<'_>) {
     let mut number = 0;
     let view = payload::read(frame);
-    let next = put_outcome(view.outcome, out, at);
-    let next = put_tab(out, next);
-    let rest = payload::payload(frame, &mut number);
-    put_hex(rest, out, next)
+    text.put_outcome(view.outcome);
+    text.put_tab();
+    text.put_hex(payload::payload(frame, &mut number));
 }
 
-fn put_command(kind: u8, bytes: &[u8], out: &mut [u8], at: usize) -> usize {
+fn put_command(kind: u8, bytes: &[u8], text: &mut Text<'_>) {
+    let byte = u8_at(bytes, 0);
     match kind {
-        b't' => dump_type(u8_at(bytes, 0), out, at),
-        b'v' => dump_version(u8_at(bytes, 0), out, at),
-        b'm' => dump_mode(u8_at(bytes, 0), out, at),
-        b'o' => dump_orders(u8_at(bytes, 0), out, at),
-        b'k' => dump_constants(out, at),
-        b'z' => put_header_size(bytes, out, at),
-        b'p' => put_view(bytes, out, at),
-        _ => put_asked(kind, bytes, out, at),
+        b't' => text.put_outcome(known::<FrameType>(byte)),
+        b'v' => text.put_outcome(known::<FrameVersion>(byte)),
+        b'm' => text.put_outcome(known::<AddressMode>(byte)),
+        b'o' => dump_orders(byte, text),
+        b'k' => dump_constants(text),
+        b'z' => put_header_size(bytes, text),
+        b'p' => put_view(bytes, text),
+        _ => put_asked(kind, bytes, text),
     }
 }
 
 // Adds the answer to a command line, given without its line feed, and a line feed.
 pub(crate) fn put_answer(line: &[u8], out: &mut [u8], at: usize) -> usize {
     let mut bytes = [0u8; MOST_BYTES];
-    let n = hexadecimal::decode(line, 2, &mut bytes);
-    let next = put_command(u8_at(line, 0), first(&bytes, n), out, at);
-    put(b'\n', out, next)
+    let n = hexadecimal::decode(line, 2, &mut bytes).min(MOST_BYTES);
+    let mut text = Text::new(out, at);
+    put_command(u8_at(line, 0), &bytes[..n], &mut text);
+    text.put(b'\n');
+    text.end()
 }

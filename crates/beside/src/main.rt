@@ -7,9 +7,9 @@ mod addresses;
 mod ask;
 mod beacons;
 mod commands;
+mod dump;
 mod headers;
 mod pending_addresses;
-mod places;
 mod security_parts;
 mod slots;
 mod superframes;
@@ -17,22 +17,8 @@ mod text;
 mod values;
 
 use commands::put_answer;
-use line_by_line::{CHUNK, Turn, next_line};
-use line_cutter::KEPT_MOST;
-use places::first;
+use line_by_line::answer_lines;
 
-// A proved loop has to end, and nothing says that the input does: the lines are counted, up to a number that no run
-// reaches.
 fn main(rt: HostRuntime) {
-    let mut chunk = [0u8; CHUNK];
-    let mut line = [0u8; KEPT_MOST];
-    let mut out = [0u8; CHUNK];
-    let mut turn = Turn::START;
-    for _ in 0..u64::MAX {
-        turn = next_line(&rt, turn, &mut chunk, &mut line, &out);
-        if !turn.found {
-            break;
-        }
-        turn.used = put_answer(first(&line, turn.n), &mut out, turn.used);
-    }
+    answer_lines(&rt, put_answer);
 }

@@ -1,105 +1,82 @@
-// Guaranteed time slots, one and their list: dumped, built from their dumps, read and written.
-use crate::addresses::{build_short, dump_short};
-use crate::ask::Ask;
-use crate::places::{flag_at, part, u8_at};
-use crate::text::{put_flag, put_reading, put_rewriting, put_u8};
+// Guaranteed time slots, one and their list.
+use crate::ask::{Ask, Record};
+use crate::dump::{Dump, Dumped, build_all, dump_all};
+use crate::text::Text;
+use identifiers::ShortAddress;
+use octets::{Outcome, Refusal};
 use time_slots::{Direction, GuaranteedTimeSlotDescriptor, GuaranteedTimeSlotInformation};
 
-// Bytes of a descriptor's record, and of the list's.
-const SLOT: usize = 5;
-
-pub(crate) const SLOTS: usize = 2 + 7 * SLOT;
-
 // A direction goes by its name's first letter, whichever bit it has on the air.
-fn letter_of(direction: Direction) -> u8 {
-    match direction {
-        Direction::Receive => b'r',
-        Direction::Transmit => b't',
+impl Dumped for Direction {
+    fn dump(self, text: &mut Text<'_>) {
+        text.put_u8(match self {
+            Direction::Receive => b'r',
+            Direction::Transmit => b't',
+        });
+    }
+
+    fn build(dump: &mut Dump<'_>) -> Self {
+        match dump.u8() {
+            b't' => Direction::Transmit,
+            _ => Direction::Receive,
+        }
     }
 }
 
-fn direction_of(letter: u8) -> Direction {
-    match letter {
-        b't' => Direction::Transmit,
-        _ => Direction::Receive,
+impl Dumped for GuaranteedTimeSlotDescriptor {
+    fn dump(self, text: &mut Text<'_>) {
+        let short = self.short_address;
+        let direction = self.direction;
+        short.dump(text);
+        text.put_u8(self.starting_slot);
+        text.put_u8(self.length);
+        direction.dump(text);
+    }
+
+    fn build(dump: &mut Dump<'_>) -> Self {
+        GuaranteedTimeSlotDescriptor {
+            short_address: ShortAddress::build(dump),
+            starting_slot: dump.u8(),
+            length: dump.u8(),
+            direction: Direction::build(dump),
+        }
     }
 }
 
-pub(crate) fn dump_slot(slot: GuaranteedTimeSlotDescriptor, out: &mut [u8], at: usize) -> usize {
-    let short = slot.short_address;
-    let direction = slot.direction;
-    let next = dump_short(short, out, at);
-    let next = put_u8(slot.starting_slot, out, next);
-    let next = put_u8(slot.length, out, next);
-    put_u8(letter_of(direction), out, next)
-}
+impl Record for GuaranteedTimeSlotDescriptor {
+    fn reading(s: &[u8], place: usize) -> Result<(Self, usize), Refusal> {
+        let read = GuaranteedTimeSlotDescriptor::read(s, place);
+        read.outcome.map(|n| (read.slot, n))
+    }
 
-pub(crate) fn build_slot(s: &[u8]) -> GuaranteedTimeSlotDescriptor {
-    let short_address = build_short(s);
-    let direction = direction_of(u8_at(s, 4));
-    GuaranteedTimeSlotDescriptor {
-        short_address,
-        starting_slot: u8_at(s, 2),
-        length: u8_at(s, 3),
-        direction,
+    fn writing(self, ask: Ask, room: &mut [u8]) -> Outcome {
+        self.write(room, ask.at)
     }
 }
 
-pub(crate) fn read_slot(s: &[u8], ask: Ask, room: &mut [u8], out: &mut [u8], at: usize) -> usize {
-    let read = GuaranteedTimeSlotDescriptor::read(s, ask.place);
-    let outcome = read.outcome;
-    let slot = read.slot;
-    let next = put_reading(outcome, out, at);
-    if outcome.number != 0 {
-        return next;
+impl Dumped for GuaranteedTimeSlotInformation {
+    fn dump(self, text: &mut Text<'_>) {
+        text.put_flag(self.permit);
+        text.put_u8((self.slot_count % 256) as u8);
+        dump_all(&self.slots, text);
     }
-    let next = dump_slot(slot, out, next);
-    let written = slot.write(room, ask.at);
-    put_rewriting(written.outcome(), room, out, next)
-}
 
-fn dump_places(slots: [GuaranteedTimeSlotDescriptor; 7], out: &mut [u8], at: usize) -> usize {
-    let mut next = at;
-    for k in 0..7 {
-        let slot = slots[k];
-        next = dump_slot(slot, out, next);
-    }
-    next
-}
-
-fn build_places(s: &[u8]) -> [GuaranteedTimeSlotDescriptor; 7] {
-    let mut slots = [GuaranteedTimeSlotDescriptor::new(); 7];
-    for k in 0..7 {
-        slots[k] = build_slot(part(s, SLOT * k));
-    }
-    slots
-}
-
-pub(crate) fn dump_slots(info: GuaranteedTimeSlotInformation, out: &mut [u8], at: usize) -> usize {
-    let slots = info.slots;
-    let next = put_flag(info.permit, out, at);
-    let next = put_u8((info.slot_count % 256) as u8, out, next);
-    dump_places(slots, out, next)
-}
-
-pub(crate) fn build_slots(s: &[u8]) -> GuaranteedTimeSlotInformation {
-    let slots = build_places(part(s, 2));
-    GuaranteedTimeSlotInformation {
-        permit: flag_at(s, 0),
-        slot_count: u8_at(s, 1) as usize,
-        slots,
+    fn build(dump: &mut Dump<'_>) -> Self {
+        let mut info = GuaranteedTimeSlotInformation::new();
+        info.permit = dump.flag();
+        info.slot_count = dump.u8() as usize;
+        build_all(dump, &mut info.slots);
+        info
     }
 }
 
-pub(crate) fn read_slots(s: &[u8], ask: Ask, room: &mut [u8], out: &mut [u8], at: usize) -> usize {
-    let read = GuaranteedTimeSlotInformation::read(s, ask.place);
-    let outcome = read.outcome;
-    let info = read.guaranteed_time_slot_info;
-    let next = put_reading(outcome, out, at);
-    if outcome.number != 0 {
-        return next;
+impl Record for GuaranteedTimeSlotInformation {
+    fn reading(s: &[u8], place: usize) -> Result<(Self, usize), Refusal> {
+        let read = GuaranteedTimeSlotInformation::read(s, place);
+        read.outcome.map(|n| (read.guaranteed_time_slot_info, n))
     }
-    let next = dump_slots(info, out, next);
-    let written = info.write(room, ask.at);
-    put_rewriting(written.outcome(), room, out, next)
+
+    fn writing(self, ask: Ask, room: &mut [u8]) -> Outcome {
+        self.write(room, ask.at)
+    }
 }

@@ -1,89 +1,74 @@
-// Superframe specifications and their orders: dumped, built from their dumps, read and written.
-use crate::ask::Ask;
-use crate::places::{flag_at, part, u8_at};
-use crate::text::{put_flag, put_reading, put_rewriting, put_u8};
+// Superframe specifications and their orders.
+use crate::ask::{Ask, Record};
+use crate::dump::{Dump, Dumped};
+use crate::text::Text;
+use octets::{Outcome, Refusal};
 use superframe::{BeaconOrder, SuperframeOrder, SuperframeSpecification};
 
-// Bytes of a superframe's record.
-pub(crate) const SUPERFRAME: usize = 8;
-
 // The case and the value of an order: 0 and its number, or 1 and 0.
-fn dump_order(case: u8, value: u8, out: &mut [u8], at: usize) -> usize {
-    let next = put_u8(case, out, at);
-    put_u8(value, out, next)
-}
+impl Dumped for BeaconOrder {
+    fn dump(self, text: &mut Text<'_>) {
+        match self {
+            BeaconOrder::BeaconOrder(value) => text.put_hex(&[0, value]),
+            BeaconOrder::OnDemand => text.put_hex(&[1, 0]),
+        }
+    }
 
-pub(crate) fn dump_beacon_order(order: BeaconOrder, out: &mut [u8], at: usize) -> usize {
-    match order {
-        BeaconOrder::BeaconOrder(value) => dump_order(0, value, out, at),
-        BeaconOrder::OnDemand => dump_order(1, 0, out, at),
+    fn build(dump: &mut Dump<'_>) -> Self {
+        match (dump.u8(), dump.u8()) {
+            (0, value) => BeaconOrder::BeaconOrder(value),
+            _ => BeaconOrder::OnDemand,
+        }
     }
 }
 
-fn build_beacon_order(s: &[u8]) -> BeaconOrder {
-    match u8_at(s, 0) {
-        0 => BeaconOrder::BeaconOrder(u8_at(s, 1)),
-        _ => BeaconOrder::OnDemand,
+impl Dumped for SuperframeOrder {
+    fn dump(self, text: &mut Text<'_>) {
+        match self {
+            SuperframeOrder::SuperframeOrder(value) => text.put_hex(&[0, value]),
+            SuperframeOrder::Inactive => text.put_hex(&[1, 0]),
+        }
+    }
+
+    fn build(dump: &mut Dump<'_>) -> Self {
+        match (dump.u8(), dump.u8()) {
+            (0, value) => SuperframeOrder::SuperframeOrder(value),
+            _ => SuperframeOrder::Inactive,
+        }
     }
 }
 
-pub(crate) fn dump_superframe_order(order: SuperframeOrder, out: &mut [u8], at: usize) -> usize {
-    match order {
-        SuperframeOrder::SuperframeOrder(value) => dump_order(0, value, out, at),
-        SuperframeOrder::Inactive => dump_order(1, 0, out, at),
+impl Dumped for SuperframeSpecification {
+    fn dump(self, text: &mut Text<'_>) {
+        let beacon_order = self.beacon_order;
+        let superframe_order = self.superframe_order;
+        beacon_order.dump(text);
+        superframe_order.dump(text);
+        text.put_u8(self.final_cap_slot);
+        text.put_flag(self.battery_life_extension);
+        text.put_flag(self.pan_coordinator);
+        text.put_flag(self.association_permit);
+    }
+
+    fn build(dump: &mut Dump<'_>) -> Self {
+        SuperframeSpecification {
+            beacon_order: BeaconOrder::build(dump),
+            superframe_order: SuperframeOrder::build(dump),
+            final_cap_slot: dump.u8(),
+            battery_life_extension: dump.flag(),
+            pan_coordinator: dump.flag(),
+            association_permit: dump.flag(),
+        }
     }
 }
 
-fn build_superframe_order(s: &[u8]) -> SuperframeOrder {
-    match u8_at(s, 0) {
-        0 => SuperframeOrder::SuperframeOrder(u8_at(s, 1)),
-        _ => SuperframeOrder::Inactive,
+impl Record for SuperframeSpecification {
+    fn reading(s: &[u8], place: usize) -> Result<(Self, usize), Refusal> {
+        let read = SuperframeSpecification::read(s, place);
+        read.outcome.map(|n| (read.superframe_spec, n))
     }
-}
 
-pub(crate) fn dump_superframe(
-    superframe: SuperframeSpecification,
-    out: &mut [u8],
-    at: usize,
-) -> usize {
-    let beacon_order = superframe.beacon_order;
-    let superframe_order = superframe.superframe_order;
-    let next = dump_beacon_order(beacon_order, out, at);
-    let next = dump_superframe_order(superframe_order, out, next);
-    let next = put_u8(superframe.final_cap_slot, out, next);
-    let next = put_flag(superframe.battery_life_extension, out, next);
-    let next = put_flag(superframe.pan_coordinator, out, next);
-    put_flag(superframe.association_permit, out, next)
-}
-
-pub(crate) fn build_superframe(s: &[u8]) -> SuperframeSpecification {
-    let beacon_order = build_beacon_order(s);
-    let superframe_order = build_superframe_order(part(s, 2));
-    SuperframeSpecification {
-        beacon_order,
-        superframe_order,
-        final_cap_slot: u8_at(s, 4),
-        battery_life_extension: flag_at(s, 5),
-        pan_coordinator: flag_at(s, 6),
-        association_permit: flag_at(s, 7),
+    fn writing(self, ask: Ask, room: &mut [u8]) -> Outcome {
+        self.write(room, ask.at)
     }
-}
-
-pub(crate) fn read_superframe(
-    s: &[u8],
-    ask: Ask,
-    room: &mut [u8],
-    out: &mut [u8],
-    at: usize,
-) -> usize {
-    let read = SuperframeSpecification::read(s, ask.place);
-    let outcome = read.outcome;
-    let superframe = read.superframe_spec;
-    let next = put_reading(outcome, out, at);
-    if outcome.number != 0 {
-        return next;
-    }
-    let next = dump_superframe(superframe, out, next);
-    let written = superframe.write(room, ask.at);
-    put_rewriting(written.outcome(), room, out, next)
 }

@@ -6,16 +6,22 @@ use native.Mathlib.Omega.{arith}
 use mathlib.Core.Bool.{Bool, true, false, ◌&&◌, and-false, false≢true}
 use mathlib.Core.List.{List, [], ◌∷◌, ◌++◌}
 use mathlib.Core.Path.{◌≡◌, refl, sym, ap, ◌∙◌}
-use borrow.Author.Tests.{leb-true, ltb-true, lt-ltb, le-ltb, ne_eqb}
+use Rattle.std.specs.Prelude.{Option, Some, None}
+use Rattle.std.specs.Char.{is_ascii_digit}
+use borrow.Author.Tests.{leb-true, leb-false, ltb-true, ltb-false, lt-ltb, le-ltb, ne_eqb}
 use lib.Dec.{ltb, leb, eqb}
 use lib.ListN.{length, get_or, take, drop, drop_of_length-le}
 use lib.Seq.{drop-cons}
 use Rattle.octets.proofs.Cases.{cases, holds?, both}
-use Rattle.decimal.specs.Decimal.{is_numeral, numeric, value_from, value_of, is_decimal, numerals, decimal_in}
+use Rattle.decimal.specs.Decimal.{is_numeral, numeric, value_from, value_of, is_decimal, appended, numerals, decimal_in}
 
--- a digit is a byte from 48 on and below 58
-pub numeral_range : (b : ℕ) → is_numeral b ≡ true → (48 ≤ b) × (b < 58)
-numeral_range b e = let p = both (leb 48 b) (ltb b 58) e in (leb-true 48 b p.0, ltb-true b 58 p.1)
+-- std's test for a digit is the definition's
+pub numeral_tells : (b : ℕ) (r : Bool) → r ≡ is_ascii_digit b → r ≡ is_numeral b
+numeral_tells b r e =
+    e
+    ∙ cases (holds? (leb b 57))
+    (λ t. let l : ltb b 58 ≡ true = lt-ltb b 58 (omega (arith, leb-true b 57 t)) in simp (t, l))
+    (λ t. let l : ltb b 58 ≡ false = le-ltb b 58 (omega (arith, leb-false b 57 t)) in simp (t, l, and-false))
 
 -- a byte that is no digit differs from each that is one
 pub numeral_differs : (a b : ℕ) → is_numeral a ≡ false → is_numeral b ≡ true → eqb b a ≡ false
@@ -76,45 +82,33 @@ grows [] n = omega arith
 grows (b ∷ s) n = omega (arith, grows s (10 * n + (b - 48)))
 
 -- with digits s still to come, all digits make n: what those so far make is below 2^64 and known, or n is not below it
-unfoldable pub Counted : Bool → ℕ → List ℕ → ℕ → Type 0
-Counted true value s n = (value < 2 ^ 64) × (value_from value s ≡ n)
-Counted false value s n = 2 ^ 64 ≤ n
+unfoldable pub Counted : Option ℕ → List ℕ → ℕ → Type 0
+Counted (Some value) s n = (value < 2 ^ 64) × (value_from value s ≡ n)
+Counted None s n = 2 ^ 64 ≤ n
 
-pub counted_none : (s : List ℕ) → Counted true 0 s (value_of s)
+pub counted_none : (s : List ℕ) → Counted (Some 0) s (value_of s)
 unfolding Counted
 counted_none s = (omega arith, refl)
 
-pub counted_more : (fits : Bool) (value b n : ℕ) (s : List ℕ) → 10 * value + (b - 48) < 2 ^ 64 →
-    Counted fits value (b ∷ s) n → Counted fits (10 * value + (b - 48)) s n
+pub counted_more : (v : Option ℕ) (b n : ℕ) (s : List ℕ) → Counted v (b ∷ s) n → Counted (appended v (b - 48)) s n
 unfolding Counted value_from
-counted_more true value b n s l h = (l, h.1)
-counted_more false value b n s l h = h
+counted_more None b n s h = h
+counted_more (Some value) b n s h =
+    cases (holds? (ltb (10 * value + (b - 48)) (2 ^ 64)))
+    (λ e. simp e (ltb-true (10 * value + (b - 48)) (2 ^ 64) e, h.1))
+    (λ e. simp e (omega (arith, grows s (10 * value + (b - 48)), h.1, ltb-false (10 * value + (b - 48)) (2 ^ 64) e)))
 
-pub counted_past : (fits : Bool) (value b n : ℕ) (s : List ℕ) → 2 ^ 64 ≤ 10 * value + (b - 48) →
-    Counted fits value (b ∷ s) n → Counted false value s n
-unfolding Counted value_from
-counted_past true value b n s l h = omega (arith, grows s (10 * value + (b - 48)), h.1)
-counted_past false value b n s l h = h
-
--- what is read of s where its digits have all come: a decimal, or none, where they make 2^64 or more, or there are none
+-- what is read of s where its digits have all come: what they make, or nothing, where there are none
 module _ (s : List ℕ) (at i : ℕ) (e : i ≡ at + length (numerals s)) where
-  pub in_good : (value : ℕ) → Counted true value [] (value_of (numerals s)) → at < i →
-      record { good = true; value = value; end = i } ≡ decimal_in s at
+  pub in_digits : (v : Option ℕ) → Counted v [] (value_of (numerals s)) → at < i →
+      record { value = v; end = i } ≡ decimal_in s at
   unfolding decimal_in is_decimal Counted value_from
-  in_good value h k =
+  in_digits None h k = rw e (simp (le-ltb (value_of (numerals s)) (2 ^ 64) h, and-false))
+  in_digits (Some value) h k =
       let l : 0 < length (numerals s) = omega arith in
       let m : value_of (numerals s) < 2 ^ 64 = omega (arith, h.0, h.1) in
       rw (e, h.1) (simp (lt-ltb _ _ l, numerals_numeric s, lt-ltb _ _ m))
 
-  in_bad : is_decimal (numerals s) ≡ false → record { good = false; value = 0; end = i } ≡ decimal_in s at
-  unfolding decimal_in
-  in_bad h = rw (e, h)
-
-  pub in_large : (value : ℕ) → Counted false value [] (value_of (numerals s)) →
-      record { good = false; value = 0; end = i } ≡ decimal_in s at
-  unfolding is_decimal Counted
-  in_large value h = in_bad (simp (le-ltb (value_of (numerals s)) (2 ^ 64) h, and-false))
-
-  pub in_none : i ≤ at → record { good = false; value = 0; end = i } ≡ decimal_in s at
-  unfolding is_decimal
-  in_none h = let l : length (numerals s) ≡ 0 = omega arith in in_bad (simp l)
+  pub in_none : i ≤ at → record { value = None; end = i } ≡ decimal_in s at
+  unfolding decimal_in is_decimal
+  in_none h = let l : length (numerals s) ≡ 0 = omega arith in rw e (simp l)

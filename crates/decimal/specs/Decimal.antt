@@ -1,6 +1,6 @@
 -- Numbers in decimal, as a text has them: document 02, request 3, "A decimal is one or more digits", "a decimal below
 -- 2^64". Zeros may lead.
-use Rattle.std.specs.Prelude.{ℕ, ◌+◌, ◌-◌, ◌*◌, ◌^◌, Bool, true, cond, ◌&&◌, List, [], ◌∷◌, ltb, leb, length}
+use Rattle.std.specs.Prelude.{ℕ, ◌+◌, ◌-◌, ◌*◌, ◌^◌, Bool, true, cond, ◌&&◌, Option, Some, None, List, [], ◌∷◌, ltb, leb, length}
 use Rattle.decimal.specs.{declared.Decimal.Decimal}
 
 -- a digit, 0 to 9
@@ -29,11 +29,15 @@ unfoldable pub numerals : List ℕ → List ℕ
 numerals [] = []
 numerals (b ∷ s) = cond (is_numeral b) (b ∷ numerals s) []
 
--- what is read of s, which begins at a place: whether the digits at its front are a decimal, its value, 0 where they
--- are none, and the place behind them
+-- what digits make with one more behind them, where that is below 2^64
+abbrev pub appended : Option ℕ → ℕ → Option ℕ
+appended None digit = None
+appended (Some n) digit = cond (ltb (10 * n + digit) (2 ^ 64)) (Some (10 * n + digit)) None
+
+-- what is read of s, which begins at a place: what the digits at its front make, where they are a decimal, and the place
+-- behind them
 unfoldable pub decimal_in : List ℕ → ℕ → Decimal
 decimal_in s at = record {
-  good = is_decimal (numerals s);
-  value = cond (is_decimal (numerals s)) (value_of (numerals s)) 0;
+  value = cond (is_decimal (numerals s)) (Some (value_of (numerals s))) None;
   end = at + length (numerals s);
 }

@@ -2,56 +2,38 @@
 #![tactic(auto)]
 
 ghost use Rattle.std.specs.Prelude.{◌≡◌, drop};
-ghost use Rattle.decimal.specs.Decimal.{is_numeral, decimal_in};
+ghost use Rattle.decimal.specs.Decimal.{appended, decimal_in};
 
-// What the digits from a place on are: whether they are a decimal, one or more digits that make a number below 2^64,
-// its value, 0 where they are none, and the place behind the digits.
-#[derive(Clone, Copy)]
+// What the digits from a place on are: the decimal that they make, where they are one, one or more digits that make a
+// number below 2^64, and the place behind them.
+#[derive(Clone, Copy, Debug, PartialEq, Eq)]
 pub struct Decimal {
-    pub good: bool,
-    pub value: u64,
+    pub value: Option<u64>,
     pub end: usize,
 }
 
-// A tenth of 2^64, which is ten times this and 6.
-const TENTH: u64 = 1844674407370955161;
-
-// A digit, 0 to 9.
-fn is_numeral(b: u8) -> bool
-    ensures { result ≡ is_numeral b }
+// What digits make with one more behind them, where that is below 2^64.
+fn appended(value: Option<u64>, digit: u8) -> Option<u64>
+    ensures { result ≡ appended value digit }
 {
-    b >= b'0' && b <= b'9'
+    value?.checked_mul(10)?.checked_add(u64::from(digit))
 }
 
 // Reads the digits from a place of s on, up to the first byte that is no digit or the end of s.
 pub fn decimal_at(s: &[u8], at: usize) -> Decimal
     ensures { result ≡ decimal_in (drop at s.now) at }
 {
-    let mut i = at;
-    let mut value = 0;
-    let mut fits = true;
-    while i < s.len() && is_numeral(s[i]) {
-        let d = (s[i] - b'0') as u64;
-        if value < TENTH {
-            value = 10 * value + d;
-        } else if value == TENTH && d <= 5 {
-            value = 10 * value + d;
-        } else {
-            fits = false;
+    let mut value = Some(0);
+    let mut end = at;
+    for b in s.get(at..).unwrap_or(&[]) {
+        if !b.is_ascii_digit() {
+            break;
         }
-        i += 1;
+        value = appended(value, *b - b'0');
+        end += 1;
     }
-    if i > at && fits {
-        Decimal {
-            good: true,
-            value,
-            end: i,
-        }
-    } else {
-        Decimal {
-            good: false,
-            value: 0,
-            end: i,
-        }
+    if end == at {
+        return Decimal { value: None, end };
     }
+    Decimal { value, end }
 }

@@ -7,24 +7,10 @@ mod edits;
 mod telling;
 
 use hexadecimal::values;
-use line_by_line::{CHUNK, Turn, next_line};
-use line_cutter::KEPT_MOST;
+use line_by_line::answer_lines;
 use telling::put_answer;
 
-// A proved loop has to end, and nothing says that the input does: the lines are counted, up to a number that no run
-// reaches.
 fn main(rt: HostRuntime) {
     let values = values();
-    let mut chunk = [0u8; CHUNK];
-    let mut line = [0u8; KEPT_MOST];
-    let mut out = [0u8; CHUNK];
-    let mut turn = Turn::START;
-    for _ in 0..u64::MAX {
-        turn = next_line(&rt, turn, &mut chunk, &mut line, &out);
-        if !turn.found {
-            break;
-        }
-        let n = turn.n;
-        turn.used = put_answer(&line[..n], &values, &mut out, turn.used);
-    }
+    answer_lines(&rt, |line, out, at| put_answer(line, &values, out, at));
 }

@@ -9,7 +9,7 @@ use lib.Dec.{eqb}
 use Rattle.octets.specs.Bits.{bits, bit, bit_of, clear}
 use Rattle.octets.proofs.Bits.{bit_back, bit_again, bit_small, bits_low, bits_join}
 use Rattle.frame_control.specs.declared.FrameControl.{FrameControl}
-use Rattle.frame_control.specs.declared.FrameControlRead.TheVariants.{Read}
+use Rattle.std.specs.Prelude.{Ok}
 use Rattle.frame_control.specs.Types.{type_bits}
 use Rattle.frame_control.specs.Versions.{version_bits}
 use Rattle.frame_control.specs.Modes.{mode_bits}
@@ -45,7 +45,7 @@ pub record Known (w : ℕ) : Type 0 where
   pub destination : eqb (bits w 10 2) 1 ≡ false
   pub source : eqb (bits w 14 2) 1 ≡ false
 
-pub control_read : (w : ℕ) → Known w → control_in w ≡ Read (control_of w)
+pub control_read : (w : ℕ) → Known w → control_in w ≡ Ok (control_of w)
 unfolding control_in
 control_read w k = simp (k.version, k.type, k.destination, k.source)
 
@@ -123,8 +123,8 @@ module _ (c : FrameControl) where
     source = ap (λ (n : ℕ). eqb n 1) source_at ∙ mode_listed c.source;
   }
 
-  pub control_back : control_in (control_bits c) ≡ Read c
-  control_back = control_read (control_bits c) control_known ∙ ap Read control_of_lem
+  pub control_back : control_in (control_bits c) ≡ Ok c
+  control_back = control_read (control_bits c) control_known ∙ ap Ok control_of_lem
 
 -- the fields of a number sum up to the number without its bit 7
 sum : (w t s p a k x q i d v m r4 r5 r6 r7 r8 r9 r10 r12 r14 : ℕ) →

@@ -5,21 +5,19 @@ use native.Mathlib.Omega.{arith}
 use mathlib.Core.Bool.{false, true≢false}
 use mathlib.Core.Path.{◌≡◌, refl}
 use lib.Dec.{eqb}
+use Rattle.std.specs.Prelude.{Ok}
 use Rattle.frame_control.specs.declared.FrameType.{FrameType}
 use Rattle.frame_control.specs.declared.FrameType.TheVariants as Kind
-use Rattle.frame_control.specs.declared.FrameTypeRead.TheVariants as TypeRead
 use Rattle.frame_control.specs.declared.FrameVersion.{FrameVersion}
 use Rattle.frame_control.specs.declared.FrameVersion.TheVariants as Version
-use Rattle.frame_control.specs.declared.FrameVersionRead.TheVariants as VersionRead
 use Rattle.frame_control.specs.declared.AddressMode.{AddressMode}
 use Rattle.frame_control.specs.declared.AddressMode.TheVariants as Mode
-use Rattle.frame_control.specs.declared.AddressModeRead.TheVariants as ModeRead
 use Rattle.frame_control.specs.Types.{type_of, type_in, type_bits}
 use Rattle.frame_control.specs.Versions.{version_of, version_in, version_bits}
 use Rattle.frame_control.specs.Modes.{mode_of, mode_in, mode_bits}
 
 -- the bits of a value are read as that value
-pub type_back : (t : FrameType) → type_of (type_bits t) ≡ TypeRead.Read t
+pub type_back : (t : FrameType) → type_of (type_bits t) ≡ Ok t
 unfolding type_of
 type_back Kind.Beacon = refl
 type_back Kind.Data = refl
@@ -29,13 +27,13 @@ type_back Kind.Multipurpose = refl
 type_back Kind.FragOrFragAck = refl
 type_back Kind.Extended = refl
 
-pub version_back : (v : FrameVersion) → version_of (version_bits v) ≡ VersionRead.Read v
+pub version_back : (v : FrameVersion) → version_of (version_bits v) ≡ Ok v
 unfolding version_of
 version_back Version.Ieee802154_2003 = refl
 version_back Version.Ieee802154_2006 = refl
 version_back Version.Ieee802154 = refl
 
-pub mode_back : (m : AddressMode) → mode_of (mode_bits m) ≡ ModeRead.Read m
+pub mode_back : (m : AddressMode) → mode_of (mode_bits m) ≡ Ok m
 unfolding mode_of
 mode_back Mode.None = refl
 mode_back Mode.Short = refl

@@ -1,14 +1,11 @@
 -- The frame control field, document 01, "Header layout" (IEEE 802.15.4-2011, 5.2.1.1): type bits 0-2, security 3,
 -- pending 4, acknowledgement request 5, PAN compression 6, bit 7 not read, sequence suppression 8, elements present 9,
 -- destination mode 10-11, version 12-13, source mode 14-15.
-use Rattle.std.specs.Prelude.{ℕ, ◌+◌, ◌*◌, ◌^◌, false, [], ◌∷◌, eqb}
-use Rattle.octets.specs.{declared.Outcome.Outcome, Bits.bits, Bits.bit, Bits.bit_of}
-use Rattle.octets.specs.{Order.first, Outcome.accepted, Outcome.refused}
-use Rattle.frame_control.specs.declared.{FrameControl.FrameControl, FrameControlRefusal.FrameControlRefusal}
-use Rattle.frame_control.specs.declared.{FrameControlRead.FrameControlRead}
+use Rattle.std.specs.Prelude.{ℕ, ◌+◌, ◌*◌, ◌^◌, false, [], ◌∷◌, eqb, Result}
+use Rattle.octets.specs.{declared.Refusal.Refusal, Bits.bits, Bits.bit, Bits.bit_of, Outcome.answered}
+use Rattle.frame_control.specs.declared.FrameControl.{FrameControl}
 use Rattle.frame_control.specs.{Types.type_in, Types.type_bits, Versions.version_in, Versions.version_bits}
 use Rattle.frame_control.specs.{Modes.mode_in, Modes.mode_bits}
-use Rattle.frame_control.specs.declared.FrameControlRead.TheVariants.{Read, Refused}
 
 -- the fields of the number w
 abbrev pub control_of : ℕ → FrameControl
@@ -27,15 +24,15 @@ control_of w =
     }
 
 -- what the number w says, or the first refusal: version, type, destination mode, source mode
-unfoldable pub control_in : ℕ → FrameControlRead
+unfoldable pub control_in : ℕ → Result FrameControl Refusal
 control_in w =
-    first
-    ((eqb (bits w 12 2) 3, Refused FrameControlRefusal.Version) ∷
-    (eqb (bits w 0 3) 4, Refused FrameControlRefusal.FrameType) ∷
-    (eqb (bits w 10 2) 1, Refused FrameControlRefusal.AddressMode) ∷
-    (eqb (bits w 14 2) 1, Refused FrameControlRefusal.AddressMode) ∷
+    answered
+    ((eqb (bits w 12 2) 3, Refusal.Version) ∷
+    (eqb (bits w 0 3) 4, Refusal.FrameType) ∷
+    (eqb (bits w 10 2) 1, Refusal.AddressMode) ∷
+    (eqb (bits w 14 2) 1, Refusal.AddressMode) ∷
     [])
-    (Read (control_of w))
+    (control_of w)
 
 -- the fields put together, bit 7 clear
 unfoldable pub control_bits : FrameControl → ℕ
@@ -66,14 +63,3 @@ quiet_control c =
       version = c.version;
       source = c.source;
     }
-
--- the refusal numbers 2, 3 and 4
-abbrev pub control_refusal : FrameControlRefusal → ℕ
-control_refusal FrameControlRefusal.Version = 2
-control_refusal FrameControlRefusal.FrameType = 3
-control_refusal FrameControlRefusal.AddressMode = 4
-
--- the field is two bytes
-abbrev pub control_outcome : FrameControlRead → Outcome
-control_outcome (Read c) = accepted 2
-control_outcome (Refused r) = refused (control_refusal r)

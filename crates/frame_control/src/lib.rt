@@ -3,14 +3,14 @@
 #![tactic(auto)]
 
 ghost use Rattle.std.specs.Prelude.{◌≤◌, ◌≡◌};
-ghost use Rattle.frame_control.specs.Types.{type_of, type_bits, type_outcome, known_type};
-ghost use Rattle.frame_control.specs.Versions.{version_of, version_bits, version_outcome, known_version};
-ghost use Rattle.frame_control.specs.Modes.{mode_of, mode_bits, mode_outcome, known_mode};
-ghost use Rattle.frame_control.specs.Control.{control_of, control_in, control_bits, control_outcome};
+ghost use Rattle.frame_control.specs.Types.{type_of, type_bits};
+ghost use Rattle.frame_control.specs.Versions.{version_of, version_bits};
+ghost use Rattle.frame_control.specs.Modes.{mode_of, mode_bits};
+ghost use Rattle.frame_control.specs.Control.{control_of, control_in, control_bits};
 
-use octets::{Outcome, bit_of};
+use octets::Refusal;
 
-#[derive(Clone, Copy)]
+#[derive(Clone, Copy, Debug, PartialEq, Eq)]
 pub enum FrameType {
     Beacon,
     Data,
@@ -21,56 +21,32 @@ pub enum FrameType {
     Extended,
 }
 
-// What bits say of a frame type: which it is, or refusal 3.
-#[derive(Clone, Copy)]
-pub enum FrameTypeRead {
-    Read(FrameType),
-    Refused,
-}
+// The whole byte is looked at: 8 is refused, and is not type 0.
+impl TryFrom<u8> for FrameType {
+    type Error = Refusal;
 
-impl FrameTypeRead {
-    pub fn outcome(self) -> Outcome
-        ensures { result ≡ type_outcome self }
-    {
-        match self {
-            FrameTypeRead::Read(_) => Outcome::accepted(0),
-            FrameTypeRead::Refused => Outcome::refused(3),
-        }
-    }
+    ghost try_from_gives = { λ bits r. r ≡ type_of bits };
 
-    // The type, Beacon where it is refused.
-    pub fn known(self) -> FrameType
-        ensures { result ≡ known_type self }
-    {
-        match self {
-            FrameTypeRead::Read(frame_type) => frame_type,
-            FrameTypeRead::Refused => FrameType::Beacon,
-        }
-    }
-}
-
-impl FrameType {
-    // The whole byte is looked at: 8 is refused, and is not type 0.
-    pub fn from_bits(bits: u8) -> FrameTypeRead
-        ensures { result ≡ type_of bits }
-    {
+    #[tactic(auto, unfolding(crate::specs::Types::type_of))]
+    fn try_from(bits: u8) -> Result<Self, Refusal> {
         match bits {
-            0 => FrameTypeRead::Read(FrameType::Beacon),
-            1 => FrameTypeRead::Read(FrameType::Data),
-            2 => FrameTypeRead::Read(FrameType::Acknowledgement),
-            3 => FrameTypeRead::Read(FrameType::MacCommand),
-            5 => FrameTypeRead::Read(FrameType::Multipurpose),
-            6 => FrameTypeRead::Read(FrameType::FragOrFragAck),
-            7 => FrameTypeRead::Read(FrameType::Extended),
-            _ => FrameTypeRead::Refused,
+            0 => Ok(FrameType::Beacon),
+            1 => Ok(FrameType::Data),
+            2 => Ok(FrameType::Acknowledgement),
+            3 => Ok(FrameType::MacCommand),
+            5 => Ok(FrameType::Multipurpose),
+            6 => Ok(FrameType::FragOrFragAck),
+            7 => Ok(FrameType::Extended),
+            _ => Err(Refusal::FrameType),
         }
     }
+}
 
-    pub fn to_bits(self) -> u8
-        ensures value { result ≡ type_bits self }
-        ensures upper_bound { result ≤ 7 }
-    {
-        match self {
+impl From<FrameType> for u8 {
+    ghost from_gives = { λ frame_type n. (n ≡ type_bits frame_type) × (n ≤ 7) };
+
+    fn from(frame_type: FrameType) -> u8 {
+        match frame_type {
             FrameType::Beacon => 0,
             FrameType::Data => 1,
             FrameType::Acknowledgement => 2,
@@ -82,59 +58,35 @@ impl FrameType {
     }
 }
 
-#[derive(Clone, Copy)]
+#[derive(Clone, Copy, Debug, PartialEq, Eq)]
 pub enum FrameVersion {
     Ieee802154_2003,
     Ieee802154_2006,
     Ieee802154,
 }
 
-// What bits say of a frame version: which it is, or refusal 2.
-#[derive(Clone, Copy)]
-pub enum FrameVersionRead {
-    Read(FrameVersion),
-    Refused,
-}
+// The whole byte is looked at: each number above 2 is refused.
+impl TryFrom<u8> for FrameVersion {
+    type Error = Refusal;
 
-impl FrameVersionRead {
-    pub fn outcome(self) -> Outcome
-        ensures { result ≡ version_outcome self }
-    {
-        match self {
-            FrameVersionRead::Read(_) => Outcome::accepted(0),
-            FrameVersionRead::Refused => Outcome::refused(2),
-        }
-    }
+    ghost try_from_gives = { λ bits r. r ≡ version_of bits };
 
-    // The version, the one of 2003 where it is refused.
-    pub fn known(self) -> FrameVersion
-        ensures { result ≡ known_version self }
-    {
-        match self {
-            FrameVersionRead::Read(version) => version,
-            FrameVersionRead::Refused => FrameVersion::Ieee802154_2003,
-        }
-    }
-}
-
-impl FrameVersion {
-    // The whole byte is looked at: each number above 2 is refused.
-    pub fn from_bits(bits: u8) -> FrameVersionRead
-        ensures { result ≡ version_of bits }
-    {
+    #[tactic(auto, unfolding(crate::specs::Versions::version_of))]
+    fn try_from(bits: u8) -> Result<Self, Refusal> {
         match bits {
-            0 => FrameVersionRead::Read(FrameVersion::Ieee802154_2003),
-            1 => FrameVersionRead::Read(FrameVersion::Ieee802154_2006),
-            2 => FrameVersionRead::Read(FrameVersion::Ieee802154),
-            _ => FrameVersionRead::Refused,
+            0 => Ok(FrameVersion::Ieee802154_2003),
+            1 => Ok(FrameVersion::Ieee802154_2006),
+            2 => Ok(FrameVersion::Ieee802154),
+            _ => Err(Refusal::Version),
         }
     }
+}
 
-    pub fn to_bits(self) -> u8
-        ensures value { result ≡ version_bits self }
-        ensures upper_bound { result ≤ 2 }
-    {
-        match self {
+impl From<FrameVersion> for u8 {
+    ghost from_gives = { λ version n. (n ≡ version_bits version) × (n ≤ 2) };
+
+    fn from(version: FrameVersion) -> u8 {
+        match version {
             FrameVersion::Ieee802154_2003 => 0,
             FrameVersion::Ieee802154_2006 => 1,
             FrameVersion::Ieee802154 => 2,
@@ -142,59 +94,35 @@ impl FrameVersion {
     }
 }
 
-#[derive(Clone, Copy)]
+#[derive(Clone, Copy, Debug, PartialEq, Eq)]
 pub enum AddressMode {
     None,
     Short,
     Extended,
 }
 
-// What bits say of an address mode: which it is, or refusal 4.
-#[derive(Clone, Copy)]
-pub enum AddressModeRead {
-    Read(AddressMode),
-    Refused,
-}
+// The whole byte is looked at: 1 is refused, and each number above 3.
+impl TryFrom<u8> for AddressMode {
+    type Error = Refusal;
 
-impl AddressModeRead {
-    pub fn outcome(self) -> Outcome
-        ensures { result ≡ mode_outcome self }
-    {
-        match self {
-            AddressModeRead::Read(_) => Outcome::accepted(0),
-            AddressModeRead::Refused => Outcome::refused(4),
-        }
-    }
+    ghost try_from_gives = { λ bits r. r ≡ mode_of bits };
 
-    // The mode, None where it is refused.
-    pub fn known(self) -> AddressMode
-        ensures { result ≡ known_mode self }
-    {
-        match self {
-            AddressModeRead::Read(mode) => mode,
-            AddressModeRead::Refused => AddressMode::None,
-        }
-    }
-}
-
-impl AddressMode {
-    // The whole byte is looked at: 1 is refused, and each number above 3.
-    pub fn from_bits(bits: u8) -> AddressModeRead
-        ensures { result ≡ mode_of bits }
-    {
+    #[tactic(auto, unfolding(crate::specs::Modes::mode_of))]
+    fn try_from(bits: u8) -> Result<Self, Refusal> {
         match bits {
-            0 => AddressModeRead::Read(AddressMode::None),
-            2 => AddressModeRead::Read(AddressMode::Short),
-            3 => AddressModeRead::Read(AddressMode::Extended),
-            _ => AddressModeRead::Refused,
+            0 => Ok(AddressMode::None),
+            2 => Ok(AddressMode::Short),
+            3 => Ok(AddressMode::Extended),
+            _ => Err(Refusal::AddressMode),
         }
     }
+}
 
-    pub fn to_bits(self) -> u8
-        ensures value { result ≡ mode_bits self }
-        ensures upper_bound { result ≤ 3 }
-    {
-        match self {
+impl From<AddressMode> for u8 {
+    ghost from_gives = { λ mode n. (n ≡ mode_bits mode) × (n ≤ 3) };
+
+    fn from(mode: AddressMode) -> u8 {
+        match mode {
             AddressMode::None => 0,
             AddressMode::Short => 2,
             AddressMode::Extended => 3,
@@ -203,7 +131,7 @@ impl AddressMode {
 }
 
 // The ten fields of the frame control; the two address modes bear the names of the addresses that they announce.
-#[derive(Clone, Copy)]
+#[derive(Clone, Copy, Debug, PartialEq, Eq)]
 pub struct FrameControl {
     pub frame_type: FrameType,
     pub security: bool,
@@ -217,96 +145,70 @@ pub struct FrameControl {
     pub source: AddressMode,
 }
 
-#[derive(Clone, Copy)]
-pub enum FrameControlRefusal {
-    Version,
-    FrameType,
-    AddressMode,
-}
-
-// The fields of a frame control, or the first refusal in the order version, type, destination mode, source mode.
-#[derive(Clone, Copy)]
-pub enum FrameControlRead {
-    Read(FrameControl),
-    Refused(FrameControlRefusal),
-}
-
-impl FrameControlRead {
-    pub fn outcome(self) -> Outcome
-        ensures { result ≡ control_outcome self }
-    {
-        match self {
-            FrameControlRead::Read(_) => Outcome::accepted(2),
-            FrameControlRead::Refused(refusal) => match refusal {
-                FrameControlRefusal::Version => Outcome::refused(2),
-                FrameControlRefusal::FrameType => Outcome::refused(3),
-                FrameControlRefusal::AddressMode => Outcome::refused(4),
-            },
-        }
-    }
-}
-
 impl FrameControl {
     // The fields of the two bytes, as one number; bit 7 is not looked at. A type, version or mode that is not known
     // counts as 0.
     pub fn of(bits: u16) -> Self
         ensures { result ≡ control_of bits }
     {
-        let frame_type = FrameType::from_bits((bits % 8) as u8);
-        let destination = AddressMode::from_bits((bits / 1024 % 4) as u8);
-        let version = FrameVersion::from_bits((bits / 4096 % 4) as u8);
-        let source = AddressMode::from_bits((bits / 16384 % 4) as u8);
+        let frame_type = FrameType::try_from((bits % 8) as u8);
+        let destination = AddressMode::try_from((bits / 1024 % 4) as u8);
+        let version = FrameVersion::try_from((bits / 4096 % 4) as u8);
+        let source = AddressMode::try_from((bits / 16384 % 4) as u8);
         FrameControl {
-            frame_type: frame_type.known(),
+            frame_type: frame_type.unwrap_or(FrameType::Beacon),
             security: bits / 8 % 2 == 1,
             frame_pending: bits / 16 % 2 == 1,
             ack_request: bits / 32 % 2 == 1,
             pan_id_compress: bits / 64 % 2 == 1,
             seq_no_suppress: bits / 256 % 2 == 1,
             ie_present: bits / 512 % 2 == 1,
-            destination: destination.known(),
-            version: version.known(),
-            source: source.known(),
+            destination: destination.unwrap_or(AddressMode::None),
+            version: version.unwrap_or(FrameVersion::Ieee802154_2003),
+            source: source.unwrap_or(AddressMode::None),
         }
     }
+}
 
-    // What the two bytes say, as one number, or the first refusal.
-    pub fn from_bits(bits: u16) -> FrameControlRead
-        ensures { result ≡ control_in bits }
-    {
+// What the two bytes say, as one number, or the first refusal in the order version, type, destination mode, source
+// mode.
+impl TryFrom<u16> for FrameControl {
+    type Error = Refusal;
+
+    ghost try_from_gives = { λ bits r. r ≡ control_in bits };
+
+    fn try_from(bits: u16) -> Result<Self, Refusal> {
         if bits / 4096 % 4 == 3 {
-            return FrameControlRead::Refused(FrameControlRefusal::Version);
+            return Err(Refusal::Version);
         }
         if bits % 8 == 4 {
-            return FrameControlRead::Refused(FrameControlRefusal::FrameType);
+            return Err(Refusal::FrameType);
         }
         if bits / 1024 % 4 == 1 {
-            return FrameControlRead::Refused(FrameControlRefusal::AddressMode);
+            return Err(Refusal::AddressMode);
         }
         if bits / 16384 % 4 == 1 {
-            return FrameControlRead::Refused(FrameControlRefusal::AddressMode);
+            return Err(Refusal::AddressMode);
         }
-        FrameControlRead::Read(FrameControl::of(bits))
+        Ok(FrameControl::of(bits))
     }
+}
 
-    // The field with bit 7 clear.
-    pub fn to_bits(self) -> u16
-        ensures { result ≡ control_bits self }
-    {
-        let frame_type = self.frame_type;
-        let destination = self.destination;
-        let version = self.version;
-        let source = self.source;
-        let low = frame_type.to_bits()
-            + 8 * bit_of(self.security)
-            + 16 * bit_of(self.frame_pending)
-            + 32 * bit_of(self.ack_request)
-            + 64 * bit_of(self.pan_id_compress);
-        let high = bit_of(self.seq_no_suppress)
-            + 2 * bit_of(self.ie_present)
-            + 4 * destination.to_bits()
-            + 16 * version.to_bits()
-            + 64 * source.to_bits();
-        (low as u16) + 256 * (high as u16)
+// The field with bit 7 clear.
+impl From<FrameControl> for u16 {
+    ghost from_gives = { λ control n. n ≡ control_bits control };
+
+    fn from(control: FrameControl) -> u16 {
+        let low = u8::from(control.frame_type)
+            + 8 * u8::from(control.security)
+            + 16 * u8::from(control.frame_pending)
+            + 32 * u8::from(control.ack_request)
+            + 64 * u8::from(control.pan_id_compress);
+        let high = u8::from(control.seq_no_suppress)
+            + 2 * u8::from(control.ie_present)
+            + 4 * u8::from(control.destination)
+            + 16 * u8::from(control.version)
+            + 64 * u8::from(control.source);
+        u16::from(low) + 256 * u16::from(high)
     }
 }

@@ -2,25 +2,30 @@
 -- Assumes nothing.
 use Prim.Native.Nat.{ℕ, zero, suc, ◌+◌, ◌-◌, ◌≤◌, ◌<◌}
 use native.Mathlib.Omega.{arith}
-use mathlib.Core.Bool.{true, true≢false}
+use mathlib.Core.Bool.{true≢false}
 use mathlib.Core.List.{List, ◌++◌}
 use mathlib.Core.Path.{◌≡◌, refl, sym, ap, ◌∙◌}
-use borrow.Author.Tests.{ltb-false, lt-ltb, le-ltb, eqb-true, eq-eqb, ne_eqb}
-use lib.Dec.{ltb, eqb}
+use borrow.Author.Tests.{ltb-false, lt-ltb, le-ltb}
+use lib.Dec.{ltb}
 use lib.ListN.{length, take, drop}
 use lib.Seq.{length-take-le}
-use Rattle.octets.specs.declared.Outcome.{Outcome}
-use Rattle.octets.specs.{Bits.clear_at, Buffer.laid, Outcome.accepted, Outcome.refused}
+use Rattle.octets.specs.{Bits.clear_at, Buffer.laid, Buffer.fitting}
 use Rattle.octets.proofs.Bits.{clear_append, clear_length}
-use Rattle.octets.proofs.Buffer.{laid_all}
+use Rattle.octets.proofs.{Buffer.laid_all, Copying.copied_front}
 use Rattle.octets.proofs.Cases.{cases, holds?}
 use Rattle.time_slots.specs.TimeSlots.{slot_count_in, time_slots_length_in}
 use Rattle.beacon.specs.declared.BeaconRead.{BeaconRead}
-use Rattle.beacon.specs.Beacon.{beacon_length_in, read_beacon}
+use Rattle.beacon.specs.Beacon.{beacon_length_in, refuses, read_beacon}
+use Rattle.beacon.proofs.Parts.{accepting}
 use Rattle.beacon_facts.specs.Cleared.{clear_directions, beacon_cleared}
 use Rattle.beacon_facts.proofs.Beacon.{all_found, beacon_read}
 use Rattle.beacon_measure.proofs.BeaconLength.{beacon_least}
 use Rattle.gateway.specs.Rewrite.{rewrite_beacon}
+use Rattle.std.specs.Prelude.{Ok, Err}
+use Rattle.octets.specs.Outcome.{number_of, length_of}
+use Rattle.octets.specs.declared.Refusal.{Refusal}
+use Rattle.octets.proofs.Accepted.{never, one_value}
+use Rattle.octets.specs.declared.Refusal.TheVariants.{Ended}
 
 -- the listed bits cleared in front of other bytes
 directions_append : (n : ℕ) (l m : List ℕ) → 3 < length l → clear_directions n 3 (l ++ m) ≡ clear_directions n 3 l ++ m
@@ -70,7 +75,7 @@ pub record BeaconAccepted (s : List ℕ) (room n : ℕ) : Type 0 where
   pub four : 4 ≤ n
   pub inside : 2 + time_slots_length_in s 2 < n
 
-beacon_there : (s : List ℕ) (room : ℕ) → (read_beacon s 0).outcome.number ≡ 0 → beacon_length_in s 0 ≤ room →
+beacon_there : (s : List ℕ) (room : ℕ) → number_of (read_beacon s 0).outcome ≡ 0 → beacon_length_in s 0 ≤ room →
     BeaconAccepted s room (beacon_length_in s 0)
 beacon_there s room read fits =
     let least = beacon_least s 0 in
@@ -82,21 +87,21 @@ beacon_there s room read fits =
       inside = omega (arith, least.1);
     }
 
-pub beacon_accepted_lem : (s : List ℕ) (room n : ℕ) → rewrite_beacon s room ≡ accepted n → BeaconAccepted s room n
+pub beacon_accepted_lem : (s : List ℕ) (room n : ℕ) → rewrite_beacon s room ≡ Ok n → BeaconAccepted s room n
 unfolding rewrite_beacon
 beacon_accepted_lem s room n e =
-    cases (holds? (eqb (read_beacon s 0).outcome.number 0))
-    (λ t.
-    cases (holds? (ltb room (beacon_length_in s 0)))
-    (λ u. let z : ◌≡◌ {A = ℕ} 1 0 = ap (λ (o : Outcome). o.number) (simp (t, u) at e) in absurd (omega arith))
+    cases (holds? (refuses (read_beacon s 0).outcome))
+    (λ t. absurd (true≢false (sym t ∙ ap refuses (simp t at e))))
     (λ f.
-    let size : beacon_length_in s 0 ≡ n = ap (λ (o : Outcome). o.length) (simp (t, f) at e) in
-    rw size at (beacon_there s room (eqb-true _ 0 t) (ltb-false room _ f))))
-    (λ f. absurd (true≢false (sym (eq-eqb _ 0 (ap (λ (o : Outcome). o.number) (simp f at e))) ∙ f)))
+    cases (holds? (ltb room (beacon_length_in s 0)))
+    (λ t. absurd (never (simp (f, t) at e)))
+    (λ g.
+    let size : beacon_length_in s 0 ≡ n = one_value (simp (f, g) at e) in
+    rw size at (beacon_there s room (accepting _ f) (ltb-false room _ g))))
 
 -- its bytes copied, and the listed bits cleared in the copy
 pub beacon_copied : (s out : List ℕ) (n : ℕ) → BeaconAccepted s (length out) n →
-    listed_cleared (slot_count_in s 2) (2 + time_slots_length_in s 2) (take n s ++ drop n out) ≡ laid out 0 (beacon_cleared s 0)
+    listed_cleared (slot_count_in s 2) (2 + time_slots_length_in s 2) (laid out 0 (fitting out 0 (take n s))) ≡ laid out 0 (beacon_cleared s 0)
 unfolding beacon_cleared
 beacon_copied s out n q =
     let count = slot_count_in s 2 in
@@ -104,29 +109,25 @@ beacon_copied s out n q =
     let long = length-take-le n s q.within in
     let cleared : listed_cleared count header (take n s) ≡ beacon_cleared s 0 =
     ap (λ (n : ℕ). listed_cleared count header (take n s)) q.end in
-    listed_append count header (take n s) (drop n out) (omega (arith, long, q.four)) (omega (arith, long, q.inside))
+    ap (listed_cleared count header) (copied_front s out n q.within q.fits)
+    ∙ listed_append count header (take n s) (drop n out) (omega (arith, long, q.four)) (omega (arith, long, q.inside))
     ∙ sym (laid_all out (listed_cleared count header (take n s)) n (listed_length count header (take n s) ∙ long) q.fits)
     ∙ ap (laid out 0) cleared
 
 -- what rewriting answers of what measuring told
-module _ (s : List ℕ) (room : ℕ) (o : Outcome) (e : o ≡ (read_beacon s 0).outcome) where
-  pub beacon_refused_lem : (o.number ≡ 0 → ⊥) → o ≡ rewrite_beacon s room
+module _ (s : List ℕ) (room : ℕ) where
+  pub beacon_refused_lem : (r : Refusal) → Err r ≡ (read_beacon s 0).outcome → Err r ≡ rewrite_beacon s room
   unfolding rewrite_beacon
-  beacon_refused_lem f = rw (← e) (simp (ne_eqb o.number 0 f))
+  beacon_refused_lem r e = rw (← e) refl
 
-  module _ (z : o.number ≡ 0) where
-    read : eqb (read_beacon s 0).outcome.number 0 ≡ true
-    read = eq-eqb _ 0 (ap (λ (o : Outcome). o.number) (sym e) ∙ z)
+  module _ {n : ℕ} (e : Ok n ≡ (read_beacon s 0).outcome) where
+    long : n ≡ beacon_length_in s 0
+    long = ap length_of e ∙ ap (λ (r : BeaconRead). length_of r.outcome) (beacon_read s 0 (ap number_of (sym e))).0
 
-    long : o.length ≡ beacon_length_in s 0
-    long =
-        ap (λ (o : Outcome). o.length) e
-        ∙ ap (λ (r : BeaconRead). r.outcome.length) (beacon_read s 0 (ap (λ (o : Outcome). o.number) (sym e) ∙ z)).0
-
-    pub beacon_full : room < o.length → refused 1 ≡ rewrite_beacon s room
+    pub beacon_full : room < n → Err Ended ≡ rewrite_beacon s room
     unfolding rewrite_beacon
-    beacon_full h = simp (read, lt-ltb room (beacon_length_in s 0) (omega (arith, long)))
+    beacon_full h = rw (← e) (simp (lt-ltb room (beacon_length_in s 0) (omega (arith, long))))
 
-    pub beacon_fits : o.length ≤ room → accepted o.length ≡ rewrite_beacon s room
+    pub beacon_fits : n ≤ room → Ok n ≡ rewrite_beacon s room
     unfolding rewrite_beacon
-    beacon_fits h = simp (read, le-ltb room (beacon_length_in s 0) (omega (arith, long))) (ap accepted long)
+    beacon_fits h = rw (← e) (simp (le-ltb room (beacon_length_in s 0) (omega (arith, long))) (ap Ok long))

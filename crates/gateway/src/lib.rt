@@ -1,29 +1,28 @@
-// The gateway's four entries, which `gateway_c` hands to C. Each returns one number: the length, or 1000 plus the refusal
-// number. They measure, and copy what is rewritten with the listed bits cleared; no record is made.
+// The gateway's four entries, which `gateway_c` hands to C. Each returns one number: the length, or 1000 plus the
+// refusal number. They measure, and copy what is rewritten with the listed bits cleared; no record is made.
 #![tactic(auto)]
 
-ghost use Rattle.std.specs.Prelude.{◌≤◌, ◌≡◌, length};
-ghost use Rattle.octets.specs.{Buffer.laid, Buffer.after, Little.number, Outcome.accepted};
+ghost use Rattle.std.specs.Prelude.{◌≤◌, ◌≡◌, length, Ok};
+ghost use Rattle.octets.specs.{Buffer.laid, Buffer.after, Little.number, Outcome.code_of};
 ghost use Rattle.header_bytes.specs.{Reading.measured, Rewriting.rewrite_header, Cleared.header_cleared};
 ghost use Rattle.beacon.specs.Beacon.{read_beacon};
 ghost use Rattle.beacon_facts.specs.Cleared.{beacon_cleared};
-ghost use Rattle.gateway.specs.{Code.code_of, Rewrite.rewrite_beacon};
+ghost use Rattle.gateway.specs.{Rewrite.rewrite_beacon};
 
 mod clearing;
 
 use beacon_measure::{measure_beacon, time_slots_length};
 use clearing::{clear_header, clear_pending, clear_slots};
 use header_bytes::{measure_header, sourceless};
-use octets::{Outcome, copy, u8_at, u16_at};
+use octets::{Outcome, Refusal, copy, u8_at, u16_at};
 
 // The one number of an outcome.
 fn code(outcome: Outcome) -> usize
     ensures { result ≡ code_of outcome }
 {
-    if outcome.number == 0 {
-        outcome.length
-    } else {
-        1000 + (outcome.number as usize)
+    match outcome {
+        Ok(length) => length,
+        Err(refusal) => 1000 + refusal.number() as usize,
     }
 }
 
@@ -32,7 +31,7 @@ pub fn knobtangle_read_header(frame: &[u8]) -> usize
     ensures { result ≡ code_of (measured frame.now) }
 {
     if frame.len() < 3 {
-        return code(Outcome::refused(1));
+        return code(Err(Refusal::Ended));
     }
     code(measure_header(frame))
 }
@@ -56,25 +55,22 @@ fn control(frame: &[u8]) -> usize
 fn rewriting(frame: &[u8], room: usize) -> Outcome
     ensures { result ≡ rewrite_header frame.now room }
 {
-    let measured = measure_header(frame);
-    if measured.number != 0 {
-        return measured;
-    }
+    let length = measure_header(frame)?;
     if room < 3 {
-        return Outcome::refused(1);
+        return Err(Refusal::Ended);
     }
     if sourceless(control(frame)) {
-        return Outcome::refused(6);
+        return Err(Refusal::MissingAddress);
     }
-    if room < measured.length {
-        return Outcome::refused(1);
+    if room < length {
+        return Err(Refusal::Ended);
     }
-    measured
+    Ok(length)
 }
 
 // Copies the n bytes of a header and clears the listed bits. Asks that rewriting accepts it with that length.
 fn put_header(frame: &[u8], n: usize, out: &mut [u8])
-    requires { rewrite_header frame.now (length out.old) ≡ accepted n }
+    requires { rewrite_header frame.now (length out.old) ≡ Ok n }
     ensures { out.new ≡ laid out.old 0 (header_cleared frame.now) }
 {
     copy(&frame[..n], out, 0);
@@ -90,16 +86,26 @@ pub fn knobtangle_rewrite_header(frame: &[u8], out: &mut [u8]) -> usize
         out.old 0 (header_cleared frame.now) }
 {
     let outcome = rewriting(frame, out.len());
-    if outcome.number != 0 {
-        return code(outcome);
+    if let Ok(length) = outcome {
+        put_header(frame, length, out);
     }
-    put_header(frame, outcome.length, out);
-    outcome.length
+    code(outcome)
+}
+
+// What rewriting a beacon into room bytes answers.
+fn rewriting_beacon(content: &[u8], room: usize) -> Outcome
+    ensures { result ≡ rewrite_beacon content.now room }
+{
+    let n = measure_beacon(content, 0)?;
+    if room < n {
+        return Err(Refusal::Ended);
+    }
+    Ok(n)
 }
 
 // Copies the n bytes of a beacon and clears the listed bits. Asks that rewriting accepts it with that length.
 fn put_beacon(content: &[u8], n: usize, out: &mut [u8])
-    requires { rewrite_beacon content.now (length out.old) ≡ accepted n }
+    requires { rewrite_beacon content.now (length out.old) ≡ Ok n }
     ensures { out.new ≡ laid out.old 0 (beacon_cleared content.now 0) }
 {
     copy(&content[..n], out, 0);
@@ -115,13 +121,9 @@ pub fn knobtangle_rewrite_beacon(content: &[u8], out: &mut [u8]) -> usize
         after (rewrite_beacon content.now (length out.old))
         out.old 0 (beacon_cleared content.now 0) }
 {
-    let outcome = measure_beacon(content, 0);
-    if outcome.number != 0 {
-        return code(outcome);
+    let outcome = rewriting_beacon(content, out.len());
+    if let Ok(length) = outcome {
+        put_beacon(content, length, out);
     }
-    if out.len() < outcome.length {
-        return code(Outcome::refused(1));
-    }
-    put_beacon(content, outcome.length, out);
-    outcome.length
+    code(outcome)
 }

@@ -3,11 +3,11 @@
 #![tactic(auto)]
 
 ghost use Rattle.std.specs.Prelude.{◌≡◌, length};
-ghost use Rattle.octets.specs.{Buffer.after};
+ghost use Rattle.octets.specs.{Buffer.after, Outcome.code_of};
 ghost use Rattle.header_bytes.specs.{Reading.measured, Rewriting.rewrite_header, Cleared.header_cleared};
 ghost use Rattle.beacon.specs.Beacon.{read_beacon};
 ghost use Rattle.beacon_facts.specs.Cleared.{beacon_cleared};
-ghost use Rattle.gateway.specs.{Code.code_of, Rewrite.rewrite_beacon};
+ghost use Rattle.gateway.specs.{Rewrite.rewrite_beacon};
 
 // Reads the header at the beginning of a frame.
 #[unsafe(no_mangle)]

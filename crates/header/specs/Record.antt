@@ -1,17 +1,19 @@
 -- The header record: how it is made, with the length that it keeps; whether it is secured, which PAN ids it has in a
 -- frame, and its two lengths (document 01, "Header layout"; document 02, request 4).
-use Rattle.std.specs.Prelude.{ℕ, ◌+◌, Bool, true}
+use Rattle.std.specs.Prelude.{ℕ, ◌+◌, Bool, true, Option}
 use Rattle.frame_control.specs.declared.{FrameControl.FrameControl}
-use Rattle.address.specs.{declared.OptionalAddress.OptionalAddress, Address.mode_of, Layout.address_length}
+use Rattle.address.specs.{Address.mode_of, Layout.address_length}
+use Rattle.address_pair.specs.declared.AddressPair.{AddressPair}
 use Rattle.address_pair.specs.Pair.{owns_to, owns_from, pair_end}
-use Rattle.security.specs.declared.{OptionalSecurityHeader.OptionalSecurityHeader}
 use Rattle.security.specs.Optional.{is_present}
 use Rattle.header_parts.specs.Parts.{parts_length}
 use Rattle.header.specs.declared.{Header.Header}
+use Rattle.address.specs.declared.Address.{Address}
+use Rattle.security.specs.declared.AuxiliarySecurityHeader.{AuxiliarySecurityHeader}
 
 -- the record of a frame control, a sequence number, two addresses and a security header, which keeps the sum of its
 -- parts: reading and the edits make every record by it
-abbrev pub header_of : FrameControl → ℕ → OptionalAddress → OptionalAddress → OptionalSecurityHeader → Header
+abbrev pub header_of : FrameControl → ℕ → Option Address → Option Address → Option AuxiliarySecurityHeader → Header
 header_of control seq destination source security =
     record {
       frame_type = control.frame_type;
@@ -49,13 +51,17 @@ control_with h compress =
 
 -- the record with compression and addresses exchanged for those given: all else stays, and it keeps the sum of its
 -- parts, whatever it kept before
-abbrev pub edited : Header → Bool → OptionalAddress → OptionalAddress → Header
+abbrev pub edited : Header → Bool → Option Address → Option Address → Header
 edited h compress destination source =
     header_of (control_with h compress) h.seq destination source h.auxiliary_security_header
 
 -- the same record with the length of its parts
 abbrev pub with_length : Header → Header
 with_length h = edited h h.pan_id_compress h.destination h.source
+
+-- the addresses, under compression or not
+abbrev pub pair_of : Header → AddressPair
+pair_of h = record { compress = h.pan_id_compress; destination = h.destination; source = h.source }
 
 -- which PAN ids stand in the frame
 abbrev pub owns_destination : Header → Bool

@@ -7,7 +7,8 @@ use mathlib.Core.List.{List, ◌++◌}
 use mathlib.Core.Path.{◌≡◌, sym, ap, ◌∙◌}
 use lib.ListN.{length, take}
 use lib.Seq.{length-take-le}
-use Rattle.octets.specs.{Bits.bit, Bits.clear_at, Little.number, Outcome.accepted}
+use Rattle.std.specs.Prelude.{Ok}
+use Rattle.octets.specs.{Bits.bit, Bits.clear_at, Little.number}
 use Rattle.octets.proofs.Bits.{clear_append, clear_length}
 use Rattle.octets.proofs.Cases.{cases, holds?}
 use Rattle.header_bytes.specs.Layout.{source_end}
@@ -38,17 +39,17 @@ cleared_append w l m h k =
     (λ f. simp f two)
 
 -- of the n bytes of a header that reading accepts
-pub header_cleared_lem : (s : List ℕ) (n : ℕ) → measured s ≡ accepted n → header_cleared s ≡ cleared_by (number s 0 2) (take n s)
+pub header_cleared_lem : (s : List ℕ) (n : ℕ) → measured s ≡ Ok n → header_cleared s ≡ cleared_by (number s 0 2) (take n s)
 unfolding header_cleared
 header_cleared_lem s n e = ap (λ (k : ℕ). cleared_by (number s 0 2) (take k s)) (sym (read_accepted s n e).end)
 
-pub header_cleared_length : (s : List ℕ) (n : ℕ) → measured s ≡ accepted n → length (header_cleared s) ≡ n
+pub header_cleared_length : (s : List ℕ) (n : ℕ) → measured s ≡ Ok n → length (header_cleared s) ≡ n
 header_cleared_length s n e =
     ap length (header_cleared_lem s n e)
     ∙ cleared_length (number s 0 2) (take n s)
     ∙ length-take-le n s (read_accepted s n e).within
 
-pub header_cleared_append : (s m : List ℕ) (n : ℕ) → measured s ≡ accepted n →
+pub header_cleared_append : (s m : List ℕ) (n : ℕ) → measured s ≡ Ok n →
     cleared_by (number s 0 2) (take n s ++ m) ≡ header_cleared s ++ m
 header_cleared_append s m n e =
     let q = read_accepted s n e in

@@ -3,19 +3,19 @@
 use Prim.Native.Nat.{ℕ, ◌≤◌}
 use native.Mathlib.Omega.{arith}
 use mathlib.Core.Bool.{Bool, true, false, cond, true≢false}
-use mathlib.Core.List.{List, [], ◌∷◌, map}
+use mathlib.Core.List.{List, map}
 use mathlib.Core.Path.{◌≡◌, refl}
+use Rattle.std.specs.Prelude.{Ok, Err}
 use borrow.Author.Tests.{ltb-false, le-ltb, eq-eqb}
 use lib.Dec.{eqb}
 use lib.ListN.{length}
-use Rattle.octets.specs.declared.Outcome.{Outcome}
+use Rattle.octets.specs.declared.Refusal.{Refusal}
 use Rattle.octets.specs.Bits.{bits}
 use Rattle.octets.specs.Little.{number}
-use Rattle.octets.specs.Order.{first}
-use Rattle.octets.specs.Outcome.{accepted, refused}
+use Rattle.octets.specs.Outcome.{Outcome, number_of}
 use Rattle.octets.proofs.Order.{Fail, none_holds}
 use Rattle.header_bytes.specs.Layout.{destination_end, source_end, header_end}
-use Rattle.header_bytes.specs.Reading.{unshared, read_tests, answered, measured}
+use Rattle.header_bytes.specs.Reading.{unshared, read_tests, measured}
 
 pub record Passed (s : List ℕ) (w : ℕ) : Type 0 where
   pub three : 3 ≤ length s
@@ -65,24 +65,17 @@ failed s w p =
 
 -- measuring tells it, or a refusal
 abbrev accepting : Outcome → Bool
-accepting o = eqb o.number 0
+accepting o = eqb (number_of o) 0
 
-pub measured_passed : (s : List ℕ) → (measured s).number ≡ 0 →
-    Passed s (number s 0 2) × (measured s ≡ accepted (header_end s (number s 0 2)))
+pub measured_passed : (s : List ℕ) → number_of (measured s) ≡ 0 →
+    Passed s (number s 0 2) × (measured s ≡ Ok (header_end s (number s 0 2)))
 unfolding measured
 measured_passed s z =
     let w = number s 0 2 in
     let q =
-    none_holds accepting (map (λ (test : Bool × ℕ). (test.0, refused test.1)) (read_tests s w)) (accepted (header_end s w))
+    none_holds accepting (map (λ (test : Bool × Refusal). (test.0, Err test.1)) (read_tests s w)) (Ok (header_end s w))
     (refl, (refl, (refl, (refl, (refl, (refl, (refl, (refl, (refl, tt))))))))) (eq-eqb _ 0 z) in
     (passed s w q.0, q.1)
-
--- the refusal that tests give is the one beside the first that holds
-pub answered_refusal : {A : Type 0} (refusal : ℕ → A) (tests : List (Bool × ℕ)) (n : ℕ) (other : A) → ((answered tests n).number ≡ 0 → ⊥) →
-    first (map (λ (test : Bool × ℕ). (test.0, refusal test.1)) tests) other ≡ refusal (answered tests n).number
-answered_refusal refusal [] n other f = absurd (f refl)
-answered_refusal refusal ((true, k) ∷ rest) n other f = refl
-answered_refusal refusal ((false, k) ∷ rest) n other f = answered_refusal refusal rest n other f
 
 -- of two tests with one answer, the first is idle where it holds only with the second
 pub idle_first : {A : Type 0} (a b : Bool) (x y : A) → (b ≡ false → a ≡ false) → cond a x (cond b x y) ≡ cond b x y

@@ -1,18 +1,19 @@
-// The header at the beginning of a slice, by its bytes alone: its number and length, told by the bits of its frame
+// The header at the beginning of a slice, by its bytes alone: its length or its refusal, told by the bits of its frame
 // control. No record is made. What stands in specs/ is what records, measuring and the C entries share.
 #![tactic(auto)]
 
 ghost use Rattle.std.specs.Prelude.{◌+◌, ◌≤◌, ◌<◌, not, ◌&&◌, ◌≡◌, ltb, eqb};
-ghost use Rattle.octets.specs.Bits.{bits, bit};
+ghost use Rattle.octets.specs.{Bits.bits, Bits.bit, Outcome.answered};
 ghost use Rattle.header_bytes.specs.Layout.{own_destination, own_source, pan_size, address_size, security_size};
 ghost use Rattle.header_bytes.specs.Layout.{destination_end, source_end, header_end};
-ghost use Rattle.header_bytes.specs.Reading.{unshared, field_tests, answered, measured};
+ghost use Rattle.header_bytes.specs.Reading.{unshared, field_tests, measured};
 ghost use Rattle.header_bytes.specs.Rewriting.{sourceless};
 
-use octets::{Outcome, u8_at, u16_at};
+use octets::{Outcome, Refusal, u8_at, u16_at};
 
 // Bytes of an address by its compression bit and the number of its mode, 2 short or 3 extended: its PAN id (2), unless
-// it is compressed, and its address (2 or 8). Asks that these are one bit and two.
+// it is compressed, and its address (2 or 8). Asks that these are one bit and two. (No record is made here, and a mode
+// would be made of its bits only to be matched.)
 fn address_size(compressed: usize, mode: usize) -> usize
     requires compressed_bound { compressed < 2 }
     requires mode_bound { mode < 4 }
@@ -39,11 +40,7 @@ pub fn own_destination(w: usize) -> bool
 pub fn own_source(w: usize) -> bool
     ensures { result ≡ own_source (bits w 10 2) (bits w 14 2) (bit w 6) }
 {
-    if w / 64 % 2 == 1 {
-        false
-    } else {
-        1 < w / 16384 % 4
-    }
+    w / 64 % 2 != 1 && 1 < w / 16384 % 4
 }
 
 // Where the destination ends by a frame control.
@@ -95,22 +92,14 @@ fn header_end(s: &[u8], w: usize, at: usize) -> usize
 pub fn sourceless(w: usize) -> bool
     ensures { result ≡ sourceless w }
 {
-    if w / 64 % 2 == 1 {
-        w / 16384 % 4 == 0
-    } else {
-        false
-    }
+    w / 64 % 2 == 1 && w / 16384 % 4 == 0
 }
 
 // Compression without a destination whose PAN id could be shared.
 fn unshared(w: usize) -> bool
     ensures { result ≡ unshared w }
 {
-    if w / 64 % 2 == 1 {
-        w / 1024 % 4 == 0
-    } else {
-        false
-    }
+    w / 64 % 2 == 1 && w / 1024 % 4 == 0
 }
 
 // What stands behind a frame control that is known.
@@ -118,41 +107,42 @@ fn measure_fields(s: &[u8], w: usize) -> Outcome
     ensures { result ≡ answered (field_tests s.now w) (header_end s.now w) }
 {
     if s.len() < destination_end(w) {
-        return Outcome::refused(1);
+        return Err(Refusal::Ended);
     }
     if unshared(w) {
-        return Outcome::refused(5);
+        return Err(Refusal::NoDestination);
     }
     let at = source_end(w);
     if s.len() < at {
-        return Outcome::refused(1);
+        return Err(Refusal::Ended);
     }
     let end = header_end(s, w, at);
     if s.len() < end {
-        return Outcome::refused(1);
+        return Err(Refusal::Ended);
     }
-    Outcome::accepted(end)
+    Ok(end)
 }
 
-// What reading the header at the beginning of a slice answers: 0 and its length, or the first refusal and 0.
+// What reading the header at the beginning of a slice answers: its length, or the first refusal. `quick` has a faster
+// one under the same contract; both have edits of their own, and the law that they agree.
 pub fn measure_header(s: &[u8]) -> Outcome
     ensures { result ≡ measured s.now }
 {
     if s.len() < 3 {
-        return Outcome::refused(1);
+        return Err(Refusal::Ended);
     }
     let w = u16_at(s, 0) as usize;
     if w / 4096 % 4 == 3 {
-        return Outcome::refused(2);
+        return Err(Refusal::Version);
     }
     if w % 8 == 4 {
-        return Outcome::refused(3);
+        return Err(Refusal::FrameType);
     }
     if w / 1024 % 4 == 1 {
-        return Outcome::refused(4);
+        return Err(Refusal::AddressMode);
     }
     if w / 16384 % 4 == 1 {
-        return Outcome::refused(4);
+        return Err(Refusal::AddressMode);
     }
     measure_fields(s, w)
 }

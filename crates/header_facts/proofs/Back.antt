@@ -8,6 +8,7 @@ use mathlib.Core.Path.{◌≡◌, refl, sym, ap, ◌∙◌}
 use borrow.Author.Tests.{ltb-false, eqb-true, not-false}
 use lib.Dec.{ltb, eqb}
 use lib.ListN.{length, length-append}
+use Rattle.std.specs.Prelude.{Option, Some, None, Ok}
 use Rattle.octets.specs.Bits.{bits, bit}
 use Rattle.octets.specs.Little.{split, number}
 use Rattle.octets.proofs.Little.{split_length, number_back}
@@ -19,22 +20,17 @@ use Rattle.frame_control.specs.Modes.{mode_bits}
 use Rattle.frame_control.proofs.Control.{control_small, control_of_lem, control_known, destination_at, source_at}
 use Rattle.identifiers.specs.declared.PanId.{PanId}
 use Rattle.identifiers.specs.PanId.{pan}
+use Rattle.address.specs.declared.Address.{Address}
 use Rattle.address.specs.declared.Address.TheVariants.{Short, Extended}
-use Rattle.address.specs.declared.OptionalAddress.{OptionalAddress}
-use Rattle.address.specs.declared.OptionalAddress.TheVariants as Address
 use Rattle.address.specs.Address.{mode_of, shared_pan}
 use Rattle.address.specs.Layout.{address_length, address_in, address_bytes, sharing}
 use Rattle.address.proofs.Addresses.{address_length_lem, address_back}
 use Rattle.address_pair.specs.Pair.{both_present}
-use Rattle.security.specs.declared.OptionalCounter.{OptionalCounter}
-use Rattle.security.specs.declared.OptionalSecurityHeader.{OptionalSecurityHeader}
-use Rattle.security.specs.declared.OptionalSecurityHeader.TheVariants.{Absent, Present}
+use Rattle.security.specs.declared.AuxiliarySecurityHeader.{AuxiliarySecurityHeader}
 use Rattle.security.specs.Optional.{is_present, optional_too_large, optional_length, optional_in, optional_bytes, counter_of}
 use Rattle.security.specs.Security.{level_of}
 use Rattle.security.proofs.Security.{security_in_lem, length_read}
-use Rattle.header_parts.specs.declared.HeaderWritten.TheVariants.{Written}
 use Rattle.header.specs.declared.Header.{Header}
-use Rattle.header.specs.declared.HeaderRead.TheVariants.{Read}
 use Rattle.header.specs.Record.{header_of, secured, owns_destination, owns_source, addresses_end, header_length}
 use Rattle.header.specs.Read.{destination_in, source_in, read_by, read_header}
 use Rattle.header.specs.Write.{write_header, written_control, fixed_bytes, header_bytes}
@@ -44,37 +40,37 @@ use Rattle.header_facts.specs.Told.{part_told, header_told, Small, SmallPart}
 use Rattle.header_facts.proofs.Fields.{to_size, from_size, security_size_lem}
 
 -- an address whose PAN id stands in the frame is read as it was
-pub owned_back : (shared : PanId) (a : OptionalAddress) → sharing (ltb 1 (mode_bits (mode_of a))) shared a ≡ a
-owned_back shared Address.Absent = refl
-owned_back shared (Address.Present (Short p a)) = refl
-owned_back shared (Address.Present (Extended p a)) = refl
+pub owned_back : (shared : PanId) (a : Option Address) → sharing (ltb 1 (mode_bits (mode_of a))) shared a ≡ a
+owned_back shared None = refl
+owned_back shared (Some (Short p a)) = refl
+owned_back shared (Some (Extended p a)) = refl
 
 -- a security part behind other bytes, and where it ends
 module _ (counter : ℕ) (before after : List ℕ) (at : ℕ) (e : length before ≡ at) (fits : counter < 256 ^ 4) where
-  abbrev whole : OptionalSecurityHeader → List ℕ
+  abbrev whole : Option AuxiliarySecurityHeader → List ℕ
   whole k = before ++ (optional_bytes k counter ++ after)
 
-  part_in : (k : OptionalSecurityHeader) → optional_too_large k ≡ false → SmallPart k →
+  part_in : (k : Option AuxiliarySecurityHeader) → optional_too_large k ≡ false → SmallPart k →
       optional_in (is_present k) (whole k) at ≡ part_told k counter
-  part_in Absent l small = refl
-  part_in (Present k) l small =
+  part_in None l small = refl
+  part_in (Some k) l small =
       let level : level_of k ≤ 7 = ltb-false 7 (level_of k) l in
-      ap Present (security_in_lem k counter before after at e (omega arith, small) fits)
+      ap Some (security_in_lem k counter before after at e (omega arith, small) fits)
 
-  part_end : (k : OptionalSecurityHeader) → optional_too_large k ≡ false →
+  part_end : (k : Option AuxiliarySecurityHeader) → optional_too_large k ≡ false →
       cond (is_present k) (at + security_size (bits (number (whole k) at 1) 3 2)) at ≡ at + optional_length k
-  part_end Absent l = omega arith
-  part_end (Present k) l =
+  part_end None l = omega arith
+  part_end (Some k) l =
       let level : level_of k ≤ 7 = ltb-false 7 (level_of k) l in
-      ap (λ (n : ℕ). at + n) (sym (security_size_lem (whole (Present k)) at) ∙ length_read k counter before after at e (omega arith))
+      ap (λ (n : ℕ). at + n) (sym (security_size_lem (whole (Some k)) at) ∙ length_read k counter before after at e (omega arith))
 
 -- with both addresses, or without compression, there is a PAN id to share
-pub both_shared : (compress : Bool) (d s : OptionalAddress) → (compress && not (both_present d s)) ≡ false →
+pub both_shared : (compress : Bool) (d s : Option Address) → (compress && not (both_present d s)) ≡ false →
     (compress && eqb (mode_bits (mode_of d)) 0) ≡ false
 both_shared false d s e = refl
-both_shared true Address.Absent s e = e
-both_shared true (Address.Present (Short p a)) s e = refl
-both_shared true (Address.Present (Extended p a)) s e = refl
+both_shared true None s e = e
+both_shared true (Some (Short p a)) s e = refl
+both_shared true (Some (Extended p a)) s e = refl
 
 module _ (h : Header) (counter : ℕ) (more : List ℕ) (small : Small h) (fits : counter < 256 ^ 4)
     (level : optional_too_large h.auxiliary_security_header ≡ false)
@@ -88,7 +84,7 @@ module _ (h : Header) (counter : ℕ) (more : List ℕ) (small : Small h) (fits 
   abbrev word : ℕ
   word = control_bits control
 
-  abbrev part : OptionalSecurityHeader
+  abbrev part : Option AuxiliarySecurityHeader
   part = h.auxiliary_security_header
 
   abbrev to : List ℕ
@@ -203,33 +199,33 @@ module _ (h : Header) (counter : ℕ) (more : List ℕ) (small : Small h) (fits 
       }
 
   -- the bytes of a record are read as told
-  pub header_back : read_header bytes ≡ Read (header_told h counter) (header_length h)
+  pub header_back : read_header bytes ≡ Ok (header_told h counter, header_length h)
   header_back =
       ap (read_by bytes) word_read
       ∙ together bytes word passed
-      ∙ (λ i. Read (header_of (same_control i) (seq_read i) (destination_read i) (source_read i) (security_read i)) (end_read i))
+      ∙ (λ i. Ok (header_of (same_control i) (seq_read i) (destination_read i) (source_read i) (security_read i), end_read i))
 
 -- so are those of each record that the writer accepts
-pub record_side : (h : Header) (counter : OptionalCounter) (room n : ℕ) (more : List ℕ) → Small h → counter_of counter < 256 ^ 4 →
-    write_header h counter room ≡ Written n →
-    read_header (header_bytes h (counter_of counter) ++ more) ≡ Read (header_told h (counter_of counter)) n
+pub record_side : (h : Header) (counter : Option ℕ) (room n : ℕ) (more : List ℕ) → Small h → counter_of counter < 256 ^ 4 →
+    write_header h counter room ≡ Ok n →
+    read_header (header_bytes h (counter_of counter) ++ more) ≡ Ok (header_told h (counter_of counter), n)
 record_side h counter room n more small fits e =
     let q = written_passes h counter room n e in
     let shared = both_shared h.pan_id_compress h.destination h.source q.0.1.1.1.0 in
-    header_back h (counter_of counter) more small fits q.0.1.0 shared ∙ ap (Read (header_told h (counter_of counter))) q.1
+    header_back h (counter_of counter) more small fits q.0.1.0 shared ∙ (λ i. Ok (header_told h (counter_of counter), q.1 i))
 
 -- neither the PAN id of a source nor a counter alters a length
-shared_mode : (own : Bool) (shared : PanId) (a : OptionalAddress) → mode_of (sharing own shared a) ≡ mode_of a
-shared_mode own shared Address.Absent = refl
-shared_mode own shared (Address.Present (Short p a)) = refl
-shared_mode own shared (Address.Present (Extended p a)) = refl
+shared_mode : (own : Bool) (shared : PanId) (a : Option Address) → mode_of (sharing own shared a) ≡ mode_of a
+shared_mode own shared None = refl
+shared_mode own shared (Some (Short p a)) = refl
+shared_mode own shared (Some (Extended p a)) = refl
 
-told_length : (k : OptionalSecurityHeader) (counter : ℕ) → optional_length (part_told k counter) ≡ optional_length k
-told_length Absent counter = refl
-told_length (Present k) counter = refl
+told_length : (k : Option AuxiliarySecurityHeader) (counter : ℕ) → optional_length (part_told k counter) ≡ optional_length k
+told_length None counter = refl
+told_length (Some k) counter = refl
 
 -- so the writer accepts a record only where it keeps the right length, and what is read back keeps the same
-pub written_kept : (h : Header) (counter : OptionalCounter) (room n : ℕ) → write_header h counter room ≡ Written n →
+pub written_kept : (h : Header) (counter : Option ℕ) (room n : ℕ) → write_header h counter room ≡ Ok n →
     (h.length ≡ n) × ((header_told h (counter_of counter)).length ≡ n)
 written_kept h counter room n e =
     let q = written_passes h counter room n e in

@@ -10,18 +10,16 @@ use borrow.Author.Tests.{le-ltb, eq-eqb}
 use lib.Dec.{ltb, eqb}
 use lib.ListN.{length, take, drop}
 use lib.Seq.{drop_at, length-take-le}
+use Rattle.std.specs.Prelude.{Option, Some, None, Ok}
 use Rattle.octets.specs.Buffer.{laid}
 use Rattle.octets.proofs.Buffer.{laid_length, laid_again, laid_parts}
 use Rattle.frame_control.specs.Modes.{mode_bits}
 use Rattle.address.specs.Address.{mode_of, shared_pan}
 use Rattle.address.specs.Layout.{sharing}
-use Rattle.security.specs.declared.OptionalSecurityHeader.{OptionalSecurityHeader}
-use Rattle.security.specs.declared.OptionalSecurityHeader.TheVariants.{Absent, Present}
+use Rattle.security.specs.declared.AuxiliarySecurityHeader.{AuxiliarySecurityHeader}
 use Rattle.security.specs.Optional.{is_present, optional_too_large, missing, counter_of, counter_read}
 use Rattle.header_parts.specs.Parts.{write_parts}
-use Rattle.header_parts.specs.declared.HeaderWritten.TheVariants.{Written}
 use Rattle.header.specs.declared.Header.{Header}
-use Rattle.header.specs.declared.HeaderRead.TheVariants.{Read}
 use Rattle.header.specs.Record.{owns_source, addresses_end, header_length}
 use Rattle.header.specs.Read.{read_header}
 use Rattle.header.specs.Write.{lacks_address, write_header, header_bytes}
@@ -32,7 +30,7 @@ use Rattle.header_facts.specs.Told.{part_told, SmallPart, Small}
 use Rattle.header_facts.proofs.Back.{header_back}
 
 -- a security part, with the counter that it has
-pub record FitPart (k : OptionalSecurityHeader) : Type 0 where
+pub record FitPart (k : Option AuxiliarySecurityHeader) : Type 0 where
   pub small : SmallPart k
   pub level : optional_too_large k ≡ false
   pub counter : counter_of (counter_read k) < 256 ^ 4
@@ -54,13 +52,13 @@ pub length_right : (h : Header) → h.length ≡ header_length h → not (eqb h.
 length_right h e = ap not (eq-eqb h.length (header_length h) e)
 
 -- no refusal 7 with the counter that was read
-pub counter_there : (k : OptionalSecurityHeader) → (is_present k && missing (counter_read k)) ≡ false
-counter_there Absent = refl
-counter_there (Present k) = refl
+pub counter_there : (k : Option AuxiliarySecurityHeader) → (is_present k && missing (counter_read k)) ≡ false
+counter_there None = refl
+counter_there (Some k) = refl
 
 module _ (h : Header) (fit : Fit h) where
   -- with room, writing is accepted, unless an address to share with is missing
-  pub accepted : (room : ℕ) → lacks_address h ≡ false → h.length ≤ room → write_header h (own_counter h) room ≡ Written h.length
+  pub accepted : (room : ℕ) → lacks_address h ≡ false → h.length ≤ room → write_header h (own_counter h) room ≡ Ok h.length
   unfolding write_parts
   accepted room both fits =
       let kept = fit.sound.kept in
@@ -68,18 +66,18 @@ module _ (h : Header) (fit : Fit h) where
       let addresses : ltb room (addresses_end h) ≡ false = le-ltb room (addresses_end h) (omega (arith, kept)) in
       let whole : ltb room (header_length h) ≡ false = le-ltb room (header_length h) (omega (arith, kept)) in
       let counter = counter_there h.auxiliary_security_header in
-      simp (length_right h kept, fit.part.level, three, both, addresses, counter, whole) (ap Written (sym kept))
+      simp (length_right h kept, fit.part.level, three, both, addresses, counter, whole) (ap Ok (sym kept))
 
   -- the bytes, which are as many as it keeps, are read as the record but for the two flags
   pub long : length (rewritten h) ≡ h.length
   long = header_length_lem h (counter_of (own_counter h)) ∙ sym fit.sound.kept
 
-  pub again : (more : List ℕ) → read_header (rewritten h ++ more) ≡ Read (lost h) h.length
+  pub again : (more : List ℕ) → read_header (rewritten h ++ more) ≡ Ok (lost h, h.length)
   again more =
       let part = fit.part in
       let sound = fit.sound in
       header_back h (counter_of (own_counter h)) more fit.small part.counter part.level sound.shared
-      ∙ (λ i. Read (quiet h (sound.source i) (part.same i)) (sym sound.kept i))
+      ∙ (λ i. Ok (quiet h (sound.source i) (part.same i), sym sound.kept i))
 
   -- in a buffer they stand between what lay before and behind them
   parted : (out : List ℕ) (to : ℕ) → to + h.length ≤ length out →
@@ -104,7 +102,7 @@ unfolding header_bytes
 settled h = refl
 
 -- an accepted writing stores the bytes
-left_stored : (h : Header) (n : ℕ) (out : List ℕ) (to : ℕ) → write_header h (own_counter h) (length out - to) ≡ Written n →
+left_stored : (h : Header) (n : ℕ) (out : List ℕ) (to : ℕ) → write_header h (own_counter h) (length out - to) ≡ Ok n →
     header_after h out to ≡ laid out to (rewritten h)
 left_stored h n out to e = rw e
 
@@ -124,7 +122,7 @@ in_buffer h out to fit both room =
       again = ap (λ (l : List ℕ). read_header (drop to l)) stored
           ∙ ap read_header (drop_at (take to out) (rewritten h ++ drop (to + h.length) out) to place)
           ∙ again h fit (drop (to + h.length) out);
-      once_more = once_more ∙ ap Written kept;
+      once_more = once_more ∙ ap Ok kept;
       settled = left_stored (lost h) (header_length h) (header_after h out to) to once_more
           ∙ (λ i. laid (left i) to (settled h i))
           ∙ laid_again out to (rewritten h)

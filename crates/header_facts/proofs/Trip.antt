@@ -8,6 +8,7 @@ use mathlib.Core.Path.{◌≡◌, refl, sym, ap, ◌∙◌}
 use borrow.Author.Tests.{le-ltb}
 use lib.Dec.{eqb}
 use lib.ListN.{length, take, drop, length-append}
+use Rattle.std.specs.Prelude.{Option, Some, None, Ok}
 use Rattle.octets.specs.Bits.{bits, bit}
 use Rattle.octets.specs.Little.{number, Bytes}
 use Rattle.octets.proofs.Buffer.{laid_parts}
@@ -20,21 +21,17 @@ use Rattle.header_bytes.proofs.Sizes.{control_inside}
 use Rattle.frame_control.specs.Control.{control_of}
 use Rattle.frame_control.specs.Modes.{mode_in, mode_bits}
 use Rattle.identifiers.specs.PanId.{pan}
+use Rattle.address.specs.declared.Address.{Address}
 use Rattle.address.specs.declared.Address.TheVariants.{Short, Extended}
-use Rattle.address.specs.declared.OptionalAddress.{OptionalAddress}
-use Rattle.address.specs.declared.OptionalAddress.TheVariants as Address
 use Rattle.address.specs.Address.{mode_of, shared_pan}
 use Rattle.address.specs.Layout.{address_in, sharing}
 use Rattle.address.proofs.Addresses.{address_more, address_small, address_shares, shared_small}
 use Rattle.address_pair.specs.Pair.{both_present}
-use Rattle.security.specs.declared.OptionalSecurityHeader.TheVariants.{Present}
 use Rattle.security.specs.Optional.{optional_too_large, optional_in}
 use Rattle.security.specs.Security.{length_in, security_in, level_of}
 use Rattle.security.proofs.Security.{security_small, counter_small, security_told_lem, security_more}
 use Rattle.header_parts.specs.Parts.{write_parts}
-use Rattle.header_parts.specs.declared.HeaderWritten.TheVariants.{Written}
 use Rattle.header.specs.declared.Header.{Header}
-use Rattle.header.specs.declared.HeaderRead.TheVariants.{Read}
 use Rattle.header.specs.Record.{header_of, header_length}
 use Rattle.header.specs.Read.{destination_in, source_in, header_in, read_by, read_header}
 use Rattle.header.specs.Write.{lacks_address, write_header}
@@ -57,23 +54,23 @@ part_facts true s at b h =
       small = fits.1;
       level = le-ltb 7 (level_of (security_in s at)) (omega (arith, fits.0));
       counter = counter_small s at b whole;
-      same = ap Present (security_told_lem s at b whole);
+      same = ap Some (security_told_lem s at b whole);
     }
 
 -- bytes behind alter no security part
 part_more : (on : Bool) (s t : List ℕ) (at : ℕ) → (on ≡ true → at + length_in s at ≤ length s) →
     optional_in on (s ++ t) at ≡ optional_in on s at
 part_more false s t at h = refl
-part_more true s t at h = ap Present (security_more s t at (h refl))
+part_more true s t at h = ap Some (security_more s t at (h refl))
 
 -- with a destination to share its PAN id, an address is missing exactly where the source is
-pub source_missing : (compress : Bool) (d s : OptionalAddress) → (compress && eqb (mode_bits (mode_of d)) 0) ≡ false →
+pub source_missing : (compress : Bool) (d s : Option Address) → (compress && eqb (mode_bits (mode_of d)) 0) ≡ false →
     (compress && not (both_present d s)) ≡ (compress && eqb (mode_bits (mode_of s)) 0)
 source_missing false d s e = refl
-source_missing true Address.Absent s e = absurd (true≢false e)
-source_missing true (Address.Present d) Address.Absent e = refl
-source_missing true (Address.Present d) (Address.Present (Short p a)) e = refl
-source_missing true (Address.Present d) (Address.Present (Extended p a)) e = refl
+source_missing true None s e = absurd (true≢false e)
+source_missing true (Some d) None e = refl
+source_missing true (Some d) (Some (Short p a)) e = refl
+source_missing true (Some d) (Some (Extended p a)) e = refl
 
 -- bytes behind an accepted header alter nothing
 module _ (s : List ℕ) (p : Passed s (number s 0 2)) (more : List ℕ) where
@@ -89,7 +86,7 @@ module _ (s : List ℕ) (p : Passed s (number s 0 2)) (more : List ℕ) where
 
   source_more : source_in (s ++ more) w ≡ source_in s w
   source_more =
-      ap (λ (d : OptionalAddress). address_in (own_from s p) (shared_pan d) (mode_in (bits w 14 2)) (s ++ more) (destination_end w))
+      ap (λ (d : Option Address). address_in (own_from s p) (shared_pan d) (mode_in (bits w 14 2)) (s ++ more) (destination_end w))
       destination_more
       ∙ address_more (own_from s p) (shared_pan (destination_in s w)) (mode_in (bits w 14 2)) s more (destination_end w)
       (omega (arith, p.addresses, source_size s p))
@@ -116,14 +113,15 @@ module _ (s : List ℕ) (p : Passed s (number s 0 2)) (more : List ℕ) where
         whole = omega (arith, p.whole, end_more);
       }
 
-  behind : read_header (s ++ more) ≡ Read (header_in s w) (header_end s w)
+  behind : read_header (s ++ more) ≡ Ok (header_in s w, header_end s w)
   behind =
       ap (read_by (s ++ more)) word_more
       ∙ together (s ++ more) w passed_more
-      ∙ (λ i. Read
-      (header_of (control_of w) (number_more s more 2 1 p.three i) (destination_more i) (source_more i)
-      (part_more (bit w 3) s more (source_end w) (part_whole s p) i))
-      (end_more i))
+      ∙ (λ i. Ok (
+        header_of (control_of w) (number_more s more 2 1 p.three i) (destination_more i) (source_more i)
+            (part_more (bit w 3) s more (source_end w) (part_whole s p) i),
+        end_more i,
+      ))
 
 module _ (s : List ℕ) (b : Bytes s) (p : Passed s (number s 0 2)) where
   abbrev word : ℕ
@@ -173,18 +171,18 @@ module _ (s : List ℕ) (b : Bytes s) (p : Passed s (number s 0 2)) where
     };
   }
 
-  accepted : (room : ℕ) → sourceless word ≡ false → size ≤ room → write_header header (own_counter header) room ≡ Written size
+  accepted : (room : ℕ) → sourceless word ≡ false → size ≤ room → write_header header (own_counter header) room ≡ Ok size
   accepted room e h =
       let told = length_told s p in
-      fit-accepted header fit room (lacks ∙ e) (omega (arith, told)) ∙ ap Written told
+      fit-accepted header fit room (lacks ∙ e) (omega (arith, told)) ∙ ap Ok told
 
-  again : (more : List ℕ) → read_header (rewritten header ++ more) ≡ Read (lost header) size
-  again more = fit-again header fit more ∙ ap (Read (lost header)) (length_told s p)
+  again : (more : List ℕ) → read_header (rewritten header ++ more) ≡ Ok (lost header, size)
+  again more = fit-again header fit more ∙ (λ i. Ok (lost header, length_told s p i))
 
   long : length (rewritten header) ≡ size
   long = fit-long header fit ∙ length_told s p
 
-  once_more : (room : ℕ) → sourceless word ≡ false → size ≤ room → write_header (lost header) (own_counter header) room ≡ Written size
+  once_more : (room : ℕ) → sourceless word ≡ false → size ≤ room → write_header (lost header) (own_counter header) room ≡ Ok size
   unfolding write_parts
   once_more = accepted
 
@@ -205,29 +203,29 @@ module _ (s : List ℕ) (b : Bytes s) (p : Passed s (number s 0 2)) where
   }
 
 -- Demand 3, point by point.
-pub header_rewritten : (s : List ℕ) (h : Header) (n : ℕ) → Bytes s → read_header s ≡ Read h n → Rewritten s h n
+pub header_rewritten : (s : List ℕ) (h : Header) (n : ℕ) → Bytes s → read_header s ≡ Ok (h, n) → Rewritten s h n
 header_rewritten s h n b e =
     let q = apart s h n e in
     let points : Rewritten s (header_in s (number s 0 2)) (header_end s (number s 0 2)) = points s b q.passed in
     rw q.size at (rw q.header at points)
 
 -- A record that was read is fit to be written with its own counter.
-pub fit_read : (s : List ℕ) (h : Header) (n : ℕ) → Bytes s → read_header s ≡ Read h n → Fit h
+pub fit_read : (s : List ℕ) (h : Header) (n : ℕ) → Bytes s → read_header s ≡ Ok (h, n) → Fit h
 fit_read s h n b e = let q = apart s h n e in rw q.header at (fit s b q.passed)
 
 -- It keeps the sum of its parts, which is the length that reading answers.
-pub kept_read : (s : List ℕ) (h : Header) (n : ℕ) → read_header s ≡ Read h n → (h.length ≡ n) × (header_length h ≡ n)
+pub kept_read : (s : List ℕ) (h : Header) (n : ℕ) → read_header s ≡ Ok (h, n) → (h.length ≡ n) × (header_length h ≡ n)
 kept_read s h n e =
     let q = apart s h n e in
     let told = length_told s q.passed ∙ q.size in
     (ap (λ (h : Header). h.length) (sym q.header) ∙ told, ap header_length (sym q.header) ∙ told)
 
 -- What reading answers does not depend on bytes behind an accepted header.
-pub unread : (s : List ℕ) (h : Header) (n : ℕ) (more : List ℕ) → read_header s ≡ Read h n → read_header (s ++ more) ≡ Read h n
-unread s h n more e = let q = apart s h n e in behind s q.passed more ∙ (λ i. Read (q.header i) (q.size i))
+pub unread : (s : List ℕ) (h : Header) (n : ℕ) (more : List ℕ) → read_header s ≡ Ok (h, n) → read_header (s ++ more) ≡ Ok (h, n)
+unread s h n more e = let q = apart s h n e in behind s q.passed more ∙ (λ i. Ok (q.header i, q.size i))
 
 -- Demand 3, with every byte of a buffer.
-pub round_trip : (s : List ℕ) (h : Header) (n : ℕ) (out : List ℕ) (to : ℕ) → Bytes s → read_header s ≡ Read h n →
+pub round_trip : (s : List ℕ) (h : Header) (n : ℕ) (out : List ℕ) (to : ℕ) → Bytes s → read_header s ≡ Ok (h, n) →
     sourceless (number s 0 2) ≡ false → to + n ≤ length out →
     RoundTrip s h n out to
 round_trip s h n out to b e both room =
@@ -238,11 +236,11 @@ round_trip s h n out to b e both room =
     let into : InBuffer h out to = in_buffer h out to (fit_read s h n b e) there (omega (arith, kept)) in
     record {
       within = trip.within;
-      accepted = into.accepted ∙ ap Written kept;
+      accepted = into.accepted ∙ ap Ok kept;
       long = ap length (sym trip.written) ∙ trip.long;
       stored = into.stored ∙ (λ i. take to out ++ (trip.written i ++ drop (to + kept i) out));
-      again = into.again ∙ ap (Read (lost h)) kept;
-      once_more = into.once_more ∙ ap Written kept;
+      again = into.again ∙ (λ i. Ok (lost h, kept i));
+      once_more = into.once_more ∙ ap Ok kept;
       settled = into.settled;
       behind = trip.behind;
     }

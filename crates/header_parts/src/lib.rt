@@ -3,85 +3,54 @@
 #![tactic(auto)]
 
 ghost use Rattle.std.specs.Prelude.{◌≤◌, ◌≡◌};
-ghost use Rattle.header_parts.specs.Parts.{parts_length, write_parts, written_outcome};
+ghost use Rattle.header_parts.specs.Parts.{parts_length, write_parts};
 
-use address::OptionalAddress;
-use address_pair::{addresses_end, lack_address};
-use octets::Outcome;
-use security::{OptionalCounter, OptionalSecurityHeader};
-
-// What writing answers: the length, or the first refusal of 8 (the kept length, the security level), 1 (below three
-// bytes), 6, 1 (addresses), 7, 1 (security part).
-#[derive(Clone, Copy)]
-pub enum HeaderWritten {
-    Written(usize),
-    WrongLength,
-    TooLarge,
-    Full,
-    Compression,
-    MissingCounter,
-}
-
-impl HeaderWritten {
-    pub fn outcome(self) -> Outcome
-        ensures { result ≡ written_outcome self }
-    {
-        match self {
-            HeaderWritten::Written(n) => Outcome::accepted(n),
-            HeaderWritten::WrongLength => Outcome::refused(8),
-            HeaderWritten::TooLarge => Outcome::refused(8),
-            HeaderWritten::Full => Outcome::refused(1),
-            HeaderWritten::Compression => Outcome::refused(6),
-            HeaderWritten::MissingCounter => Outcome::refused(7),
-        }
-    }
-}
+use address_pair::AddressPair;
+use octets::{Outcome, Refusal};
+use security::{AuxiliarySecurityHeader, lacks_counter, level_too_large, security_octets};
 
 // How many bytes the parts take in a frame.
-pub fn parts_length(
-    compress: bool,
-    destination: OptionalAddress,
-    source: OptionalAddress,
-    security: OptionalSecurityHeader,
-) -> usize
-    ensures value { result ≡ parts_length compress destination source security }
+pub fn parts_length(pair: AddressPair, security: Option<AuxiliarySecurityHeader>) -> usize
+    ensures value { result ≡ parts_length pair.compress pair.destination pair.source security }
     ensures upper_bound { result ≤ 37 }
 {
-    addresses_end(compress, destination, source) + security.octets()
+    pair.end() + security_octets(security)
 }
 
-// What writing a header of these parts, with the length that it keeps, into room bytes answers.
+// What writing a header of these parts, with the length that it keeps, into room bytes answers: the length, or the
+// first refusal of 8 (the kept length, the security level), 1 (below three bytes), 6, 1 (addresses), 7, 1 (security
+// part).
+#[tactic(auto, unfolding(crate::specs::Parts::write_parts))]
 pub fn write_answer(
     kept: usize,
-    compress: bool,
-    destination: OptionalAddress,
-    source: OptionalAddress,
-    security: OptionalSecurityHeader,
-    counter: OptionalCounter,
+    pair: AddressPair,
+    security: Option<AuxiliarySecurityHeader>,
+    counter: Option<u32>,
     room: usize,
-) -> HeaderWritten
-    ensures { result ≡ write_parts kept compress destination source security counter room }
+) -> Outcome
+    ensures { result ≡
+        write_parts kept pair.compress pair.destination pair.source security counter room }
 {
-    if kept != parts_length(compress, destination, source, security) {
-        return HeaderWritten::WrongLength;
+    if kept != parts_length(pair, security) {
+        return Err(Refusal::WrongLength);
     }
-    if security.too_large() {
-        return HeaderWritten::TooLarge;
+    if level_too_large(security) {
+        return Err(Refusal::TooLarge);
     }
     if room < 3 {
-        return HeaderWritten::Full;
+        return Err(Refusal::Ended);
     }
-    if lack_address(compress, destination, source) {
-        return HeaderWritten::Compression;
+    if pair.lacks_address() {
+        return Err(Refusal::MissingAddress);
     }
-    if room < addresses_end(compress, destination, source) {
-        return HeaderWritten::Full;
+    if room < pair.end() {
+        return Err(Refusal::Ended);
     }
-    if security.lacks_counter(counter) {
-        return HeaderWritten::MissingCounter;
+    if lacks_counter(security, counter) {
+        return Err(Refusal::MissingCounter);
     }
     if room < kept {
-        return HeaderWritten::Full;
+        return Err(Refusal::Ended);
     }
-    HeaderWritten::Written(kept)
+    Ok(kept)
 }

@@ -5,35 +5,17 @@ ghost use Rattle.std.specs.Prelude.{◌+◌, ◌-◌, ◌*◌, ◌/◌, min, ◌
 ghost use Rattle.octets.specs.Buffer.{laid};
 ghost use Rattle.hexadecimal.specs.Hex.{worth, worths, decoded, decoded_by};
 
-use octets::{least, left};
+use octets::left;
 
 // The value of a digit, and 256 of a byte that is none: with it a pair of digits is more than a byte.
+#[tactic(auto, unfolding(crate::specs::Hex::digit))]
 fn value(b: u8) -> u16
     ensures { result ≡ worth b }
 {
     match b {
-        b'0' => 0,
-        b'1' => 1,
-        b'2' => 2,
-        b'3' => 3,
-        b'4' => 4,
-        b'5' => 5,
-        b'6' => 6,
-        b'7' => 7,
-        b'8' => 8,
-        b'9' => 9,
-        b'A' => 10,
-        b'B' => 11,
-        b'C' => 12,
-        b'D' => 13,
-        b'E' => 14,
-        b'F' => 15,
-        b'a' => 10,
-        b'b' => 11,
-        b'c' => 12,
-        b'd' => 13,
-        b'e' => 14,
-        b'f' => 15,
+        b'0'..=b'9' => u16::from(b - b'0'),
+        b'A'..=b'F' => u16::from(b - b'A' + 10),
+        b'a'..=b'f' => u16::from(b - b'a' + 10),
         _ => 256,
     }
 }
@@ -43,10 +25,8 @@ pub fn values() -> [u16; 256]
     ensures { result ≡ worths 256 }
 {
     let mut table = [0u16; 256];
-    let mut b = 0;
-    while b < 256 {
+    for b in 0..256 {
         table[b] = value(b as u8);
-        b += 1;
     }
     table
 }
@@ -55,14 +35,14 @@ pub fn values() -> [u16; 256]
 fn most(s: &[u8], at: usize, room: usize) -> usize
     ensures { result ≡ min ((length s.now - at) / 2) room }
 {
-    least(left(s, at) / 2, room)
+    (left(s, at) / 2).min(room)
 }
 
 // What two digits make, by what each counts for.
 fn pair_of(high: u16, low: u16) -> u32
     ensures { result ≡ 16 * high + low }
 {
-    16 * high as u32 + low as u32
+    16 * u32::from(high) + u32::from(low)
 }
 
 // Decodes the pairs of digits from a place of s on into out, by a lent table of what each byte counts for, up to the
@@ -74,8 +54,8 @@ pub fn decode_by(s: &[u8], at: usize, values: &[u16; 256], out: &mut [u8]) -> us
         (decoded_by values.now s.now at (length out.old)) }
 {
     let end = most(s, at, out.len());
-    let mut n = 0;
-    while n < end {
+    // Over places: two digits of s make one byte of out.
+    for n in 0..end {
         let high = values[s[at + 2 * n] as usize];
         let low = values[s[at + 2 * n + 1] as usize];
         let pair = pair_of(high, low);
@@ -83,9 +63,8 @@ pub fn decode_by(s: &[u8], at: usize, values: &[u16; 256], out: &mut [u8]) -> us
             return n;
         }
         out[n] = pair as u8;
-        n += 1;
     }
-    n
+    end
 }
 
 // The same with the table of `values`: up to the first pair that is not two digits. The digits are whole, neither odd

@@ -1,3 +1,4 @@
+pub mod Identifier
 pub mod PanId
 pub mod ShortAddress
 pub mod ExtendedAddress

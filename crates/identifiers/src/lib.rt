@@ -2,153 +2,148 @@
 // form, read and written as a part of a slice at a place.
 #![tactic(auto)]
 
-ghost use Rattle.std.specs.Prelude.{◌≡◌};
+ghost use Rattle.std.specs.Prelude.{ℕ, ◌-◌, ◌^◌, ◌≡◌, refl};
 ghost use Rattle.octets.specs.Buffer.{after};
-ghost use Rattle.octets.specs.Little.{split};
-ghost use Rattle.octets.specs.Part.{write_part, part_outcome};
-ghost use Rattle.identifiers.specs.PanId.{pan, read_pan_id, pan_id_outcome};
-ghost use Rattle.identifiers.specs.ShortAddress.{short, read_short, short_outcome};
-ghost use Rattle.identifiers.specs.ExtendedAddress.{extended, read_extended, extended_outcome};
+ghost use Rattle.octets.specs.Little.{number, split};
+ghost use Rattle.octets.specs.Part.{write_part};
+ghost use Rattle.identifiers.specs.Identifier.{read_identifier};
+ghost use Rattle.identifiers.specs.PanId.{pan};
+ghost use Rattle.identifiers.specs.ShortAddress.{short};
+ghost use Rattle.identifiers.specs.ExtendedAddress.{extended};
 
-use octets::{Outcome, PartWritten, left, u16_at, u64_at, write_number};
+use octets::{Outcome, Refusal, left, u16_at, u64_at, write_number};
 
-#[derive(Clone, Copy)]
-pub struct PanId(pub u16);
+// A number in a wrapper of its own, little-endian in so many bytes.
+pub trait Identifier: Copy {
+    // How many bytes it takes.
+    const WIDTH: usize;
 
-// What reading it answers: the value, or refusal 1.
-#[derive(Clone, Copy)]
-pub enum PanIdRead {
-    Read(PanId),
-    Ended,
-}
+    ghost WIDTH: { ℕ };
 
-impl PanIdRead {
-    pub fn outcome(self) -> Outcome
-        ensures { result ≡ pan_id_outcome self }
+    // The identifier of a number, and the number of an identifier.
+    ghost of: { ℕ → Self };
+
+    ghost value: { Self → ℕ };
+
+    // The identifier in the bytes at a place, those past the end 0.
+    fn at(s: &[u8], at: usize) -> Self
+        ensures { result ≡ of (number s.now at WIDTH) };
+
+    fn value(self) -> u64
+        ensures { result ≡ value self };
+
+    // The broadcast form: all ones.
+    fn broadcast() -> Self
+        ensures { result ≡ of (256 ^ WIDTH - 1) };
+
+    fn read(s: &[u8], at: usize) -> Result<Self, Refusal>
+        ensures { result ≡ read_identifier WIDTH of s.now at }
     {
-        match self {
-            PanIdRead::Read(_) => Outcome::accepted(2),
-            PanIdRead::Ended => Outcome::refused(1),
+        if left(s, at) < Self::WIDTH {
+            return Err(Refusal::Ended);
         }
+        Ok(Self::at(s, at))
     }
+
+    fn write(self, out: &mut [u8], at: usize) -> Outcome
+        ensures value { result ≡ write_part out.old at WIDTH }
+        ensures out_after { out.new ≡ after result out.old at (split WIDTH (value self)) }
+    {
+        write_number(self.value(), Self::WIDTH, out, at)
+    }
+
+    ghost value_of: { (n : ℕ) → value (of n) ≡ n };
 }
+
+#[derive(Clone, Copy, Debug, PartialEq, Eq)]
+pub struct PanId(pub u16);
 
 impl PanId {
     pub const BROADCAST: Self = PanId(0xffff);
+}
 
-    pub fn broadcast() -> Self
-        ensures { result ≡ pan 0xffff }
-    {
+impl Identifier for PanId {
+    const WIDTH: usize = 2;
+
+    ghost WIDTH = { 2 };
+
+    ghost of = { pan };
+
+    ghost value = { λ x. x.0 };
+
+    ghost value_of = { λ n. refl };
+
+    fn broadcast() -> Self {
         Self::BROADCAST
     }
 
-    pub fn read(s: &[u8], at: usize) -> PanIdRead
-        ensures { result ≡ read_pan_id s.now at }
-    {
-        if left(s, at) < 2 {
-            return PanIdRead::Ended;
-        }
-        PanIdRead::Read(PanId(u16_at(s, at)))
+    fn at(s: &[u8], at: usize) -> Self {
+        PanId(u16_at(s, at))
     }
 
-    pub fn write(self, out: &mut [u8], at: usize) -> PartWritten
-        ensures value { result ≡ write_part out.old at 2 }
-        ensures out_after { out.new ≡ after (part_outcome result) out.old at (split 2 self.0) }
-    {
-        write_number(self.0 as u64, 2, out, at)
+    fn value(self) -> u64 {
+        self.0 as u64
     }
 }
 
-#[derive(Clone, Copy)]
+#[derive(Clone, Copy, Debug, PartialEq, Eq)]
 pub struct ShortAddress(pub u16);
-
-// What reading it answers: the value, or refusal 1.
-#[derive(Clone, Copy)]
-pub enum ShortAddressRead {
-    Read(ShortAddress),
-    Ended,
-}
-
-impl ShortAddressRead {
-    pub fn outcome(self) -> Outcome
-        ensures { result ≡ short_outcome self }
-    {
-        match self {
-            ShortAddressRead::Read(_) => Outcome::accepted(2),
-            ShortAddressRead::Ended => Outcome::refused(1),
-        }
-    }
-}
 
 impl ShortAddress {
     pub const BROADCAST: Self = ShortAddress(0xffff);
+}
 
-    pub fn broadcast() -> Self
-        ensures { result ≡ short 0xffff }
-    {
+impl Identifier for ShortAddress {
+    const WIDTH: usize = 2;
+
+    ghost WIDTH = { 2 };
+
+    ghost of = { short };
+
+    ghost value = { λ x. x.0 };
+
+    ghost value_of = { λ n. refl };
+
+    fn broadcast() -> Self {
         Self::BROADCAST
     }
 
-    pub fn read(s: &[u8], at: usize) -> ShortAddressRead
-        ensures { result ≡ read_short s.now at }
-    {
-        if left(s, at) < 2 {
-            return ShortAddressRead::Ended;
-        }
-        ShortAddressRead::Read(ShortAddress(u16_at(s, at)))
+    fn at(s: &[u8], at: usize) -> Self {
+        ShortAddress(u16_at(s, at))
     }
 
-    pub fn write(self, out: &mut [u8], at: usize) -> PartWritten
-        ensures value { result ≡ write_part out.old at 2 }
-        ensures out_after { out.new ≡ after (part_outcome result) out.old at (split 2 self.0) }
-    {
-        write_number(self.0 as u64, 2, out, at)
+    fn value(self) -> u64 {
+        self.0 as u64
     }
 }
 
-#[derive(Clone, Copy)]
+#[derive(Clone, Copy, Debug, PartialEq, Eq)]
 pub struct ExtendedAddress(pub u64);
-
-// What reading it answers: the value, or refusal 1.
-#[derive(Clone, Copy)]
-pub enum ExtendedAddressRead {
-    Read(ExtendedAddress),
-    Ended,
-}
-
-impl ExtendedAddressRead {
-    pub fn outcome(self) -> Outcome
-        ensures { result ≡ extended_outcome self }
-    {
-        match self {
-            ExtendedAddressRead::Read(_) => Outcome::accepted(8),
-            ExtendedAddressRead::Ended => Outcome::refused(1),
-        }
-    }
-}
 
 impl ExtendedAddress {
     pub const BROADCAST: Self = ExtendedAddress(0xffff_ffff_ffff_ffff);
+}
 
-    pub fn broadcast() -> Self
-        ensures { result ≡ extended 0xffff_ffff_ffff_ffff }
-    {
+impl Identifier for ExtendedAddress {
+    const WIDTH: usize = 8;
+
+    ghost WIDTH = { 8 };
+
+    ghost of = { extended };
+
+    ghost value = { λ x. x.0 };
+
+    ghost value_of = { λ n. refl };
+
+    fn broadcast() -> Self {
         Self::BROADCAST
     }
 
-    pub fn read(s: &[u8], at: usize) -> ExtendedAddressRead
-        ensures { result ≡ read_extended s.now at }
-    {
-        if left(s, at) < 8 {
-            return ExtendedAddressRead::Ended;
-        }
-        ExtendedAddressRead::Read(ExtendedAddress(u64_at(s, at)))
+    fn at(s: &[u8], at: usize) -> Self {
+        ExtendedAddress(u64_at(s, at))
     }
 
-    pub fn write(self, out: &mut [u8], at: usize) -> PartWritten
-        ensures value { result ≡ write_part out.old at 8 }
-        ensures out_after { out.new ≡ after (part_outcome result) out.old at (split 8 self.0) }
-    {
-        write_number(self.0, 8, out, at)
+    fn value(self) -> u64 {
+        self.0
     }
 }

@@ -17,38 +17,37 @@ use Rattle.octets.proofs.Cases.{cases, holds?}
 use Rattle.security_control.specs.declared.KeyIdentifierMode.{KeyIdentifierMode}
 use Rattle.security_control.specs.declared.KeyIdentifierMode.TheVariants as Mode
 use Rattle.key_identifier.specs.declared.KeySource.TheVariants.{Short, Long}
-use Rattle.key_identifier.specs.declared.OptionalKeySource.{OptionalKeySource}
-use Rattle.key_identifier.specs.declared.OptionalKeySource.TheVariants as Source
-use Rattle.key_identifier.specs.declared.OptionalKeyIdentifier.{OptionalKeyIdentifier}
-use Rattle.key_identifier.specs.declared.OptionalKeyIdentifier.TheVariants.{Absent, Present}
 use Rattle.key_identifier.specs.Key.{source_mode, mode_of_key, key_length, key_in, source_length, source_bytes, key_bytes, SmallSource}
 use Rattle.key_identifier.specs.Key.{SmallKey}
+use Rattle.std.specs.Prelude.{Option, Some, None}
+use Rattle.key_identifier.specs.declared.KeySource.{KeySource}
+use Rattle.key_identifier.specs.declared.KeyIdentifier.{KeyIdentifier}
 
 -- a key identifier is its source and one byte
-pub source_key : (source : OptionalKeySource) → key_length (source_mode source) ≡ source_length source + 1
-source_key Source.Absent = refl
-source_key (Source.Present (Short k)) = refl
-source_key (Source.Present (Long k)) = refl
+pub source_key : (source : Option KeySource) → key_length (source_mode source) ≡ source_length source + 1
+source_key None = refl
+source_key (Some (Short k)) = refl
+source_key (Some (Long k)) = refl
 
-pub source_length_lem : (source : OptionalKeySource) → length (source_bytes source) ≡ source_length source
-source_length_lem Source.Absent = refl
-source_length_lem (Source.Present (Short k)) = split_length 4 k
-source_length_lem (Source.Present (Long k)) = split_length 8 k
+pub source_length_lem : (source : Option KeySource) → length (source_bytes source) ≡ source_length source
+source_length_lem None = refl
+source_length_lem (Some (Short k)) = split_length 4 k
+source_length_lem (Some (Long k)) = split_length 8 k
 
-pub key_length_lem : (k : OptionalKeyIdentifier) → length (key_bytes k) ≡ key_length (mode_of_key k)
+pub key_length_lem : (k : Option KeyIdentifier) → length (key_bytes k) ≡ key_length (mode_of_key k)
 unfolding key_bytes
-key_length_lem Absent = refl
-key_length_lem (Present k) = simp (length-append, source_length_lem, split_length, source_key)
+key_length_lem None = refl
+key_length_lem (Some k) = simp (length-append, source_length_lem, split_length, source_key)
 
-source_bytes_lem : (source : OptionalKeySource) → Bytes (source_bytes source)
-source_bytes_lem Source.Absent = tt
-source_bytes_lem (Source.Present (Short k)) = split_bytes 4 k
-source_bytes_lem (Source.Present (Long k)) = split_bytes 8 k
+source_bytes_lem : (source : Option KeySource) → Bytes (source_bytes source)
+source_bytes_lem None = tt
+source_bytes_lem (Some (Short k)) = split_bytes 4 k
+source_bytes_lem (Some (Long k)) = split_bytes 8 k
 
-pub key_bytes_lem : (k : OptionalKeyIdentifier) → Bytes (key_bytes k)
+pub key_bytes_lem : (k : Option KeyIdentifier) → Bytes (key_bytes k)
 unfolding key_bytes
-key_bytes_lem Absent = tt
-key_bytes_lem (Present k) =
+key_bytes_lem None = tt
+key_bytes_lem (Some k) =
     bytes_append (source_bytes k.key_source) (split 1 k.key_index)
     (source_bytes_lem k.key_source) (split_bytes 1 k.key_index)
 
@@ -63,27 +62,27 @@ module _ (before after : List ℕ) (at n v i : ℕ) (e : length before ≡ at) w
       rw (append_assoc (split n v) (split 1 i) after, ← append_assoc before (split n v) (split 1 i ++ after))
       (number_back (before ++ split n v) (at + n) 1 i after k h)
 
-present_back : (source : OptionalKeySource) (i : ℕ) (before after : List ℕ) (at : ℕ) → length before ≡ at → SmallSource source →
+present_back : (source : Option KeySource) (i : ℕ) (before after : List ℕ) (at : ℕ) → length before ≡ at → SmallSource source →
     i < 256 ^ 1 →
     key_in (source_mode source) (before ++ ((source_bytes source ++ split 1 i) ++ after)) at
-    ≡ Present (record { key_source = source; key_index = i })
+    ≡ Some (record { key_source = source; key_index = i })
 unfolding key_in
-present_back Source.Absent i before after at e h j = rw (number_back before at 1 i after e j)
-present_back (Source.Present (Short k)) i before after at e h j =
+present_back None i before after at e h j = rw (number_back before at 1 i after e j)
+present_back (Some (Short k)) i before after at e h j =
     rw (first_back before after at 4 k i e h, index_back before after at 4 k i e j)
-present_back (Source.Present (Long k)) i before after at e h j =
+present_back (Some (Long k)) i before after at e h j =
     rw (first_back before after at 8 k i e h, index_back before after at 8 k i e j)
 
-absent_back : (s : List ℕ) (at : ℕ) → key_in Mode.None s at ≡ Absent
+absent_back : (s : List ℕ) (at : ℕ) → key_in Mode.None s at ≡ None
 unfolding key_in
 absent_back s at = refl
 
 -- what was written is read as it was
-pub key_back : (k : OptionalKeyIdentifier) (before after : List ℕ) (at : ℕ) → length before ≡ at → SmallKey k →
+pub key_back : (k : Option KeyIdentifier) (before after : List ℕ) (at : ℕ) → length before ≡ at → SmallKey k →
     key_in (mode_of_key k) (before ++ (key_bytes k ++ after)) at ≡ k
 unfolding key_bytes
-key_back Absent before after at e h = absent_back (before ++ after) at
-key_back (Present k) before after at e h = present_back k.key_source k.key_index before after at e h.0 h.1
+key_back None before after at e h = absent_back (before ++ after) at
+key_back (Some k) before after at e h = present_back k.key_source k.key_index before after at e h.0 h.1
 
 -- what was read is written as it was
 number_and_index : (s : List ℕ) (at n : ℕ) → Bytes s → at + (n + 1) ≤ length s →

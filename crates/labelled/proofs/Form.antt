@@ -3,10 +3,11 @@
 -- Assumes nothing.
 use Prim.Native.Nat.{ℕ, ◌+◌, ◌*◌, ◌≤◌, ◌<◌}
 use native.Mathlib.Omega.{arith}
-use mathlib.Core.Bool.{true, false, false≢true}
+use mathlib.Core.Bool.{true, false, cond}
+use Rattle.std.specs.Prelude.{Result, Ok, Err}
 use mathlib.Core.List.{List, [], ◌∷◌, ◌++◌}
 use mathlib.Core.Path.{◌≡◌, refl, sym, ap, ◌∙◌}
-use borrow.Author.Tests.{lt-ltb, le-ltb, ltb-true, ltb-false, eqb-true, eqb-false}
+use borrow.Author.Tests.{lt-ltb, le-ltb, ltb-true, ltb-false, eq-eqb, ne_eqb, eqb-true, eqb-false}
 use lib.Dec.{ltb, eqb}
 use lib.ListN.{length, take, drop, length-take, length-drop}
 use Rattle.octets.specs.Buffer.{laid}
@@ -36,59 +37,82 @@ frame_within table l at room =
 -- what the code's test shows is what the definition says: a line is too long, or it is not
 module _ (table l : List ℕ) (room : ℕ) where
   pub part_long : (frame : List ℕ) → line_most < length l →
-      (record { good = false; tab = 0; count = 0 } ≡ parted table l room) × (frame ≡ laid frame 0 (frame_by table l room))
+      (Err (record { tab = 0; count = 0 }) ≡ parted table l room) × (frame ≡ laid frame 0 (frame_by table l room))
   unfolding parted
   part_long frame h = simp (lt-ltb line_most (length l) h) (refl, sym (laid_none frame 0))
 
   module _ (tab : ℕ) (e : tab ≡ length (label l)) (h : length l ≤ line_most) where
-    pub part_short : (count : ℕ) → count ≡ length (decoded_by table l (tab + 1) room) →
-        record { good = eqb (tab + 1 + 2 * count) (length l); tab = tab; count = count } ≡ parted table l room
-    unfolding parted
-    part_short count f = rw (f, e) (simp (le-ltb line_most (length l) h))
+    module _ (count : ℕ) (f : count ≡ length (decoded_by table l (tab + 1) room)) where
+      pub part_whole : tab + 1 + 2 * count ≡ length l → Ok (record { tab = tab; count = count }) ≡ parted table l room
+      unfolding parted
+      part_whole g =
+          let t = rw (f, e) at (eq-eqb (tab + 1 + 2 * count) (length l) g) in
+          rw (f, e) (simp (le-ltb line_most (length l) h, t))
+
+      pub part_other : (tab + 1 + 2 * count ≡ length l → ⊥) → Err (record { tab = tab; count = count }) ≡ parted table l room
+      unfolding parted
+      part_other g =
+          let t = rw (f, e) at (ne_eqb (tab + 1 + 2 * count) (length l) g) in
+          rw (f, e) (simp (le-ltb line_most (length l) h, t))
 
     pub frame_short : decoded_by table l (tab + 1) room ≡ frame_by table l room
     frame_short = rw e (simp (le-ltb line_most (length l) h))
 
--- what taking a line apart by the values of hex digits tells, with room for 512 bytes
-pub record Apart (l : List ℕ) (r : Parted) (frame : List ℕ) : Type 0 where
-  pub few : r.count ≤ 512
-  pub whole : r.good ≡ true → r.tab + 1 + 2 * r.count ≡ length l
-  pub good : r.good ≡ true → (said : List ℕ → List ℕ) → take r.tab l ++ said (take r.count frame) ≡ labelled said l
-  pub other : r.good ≡ false → (said : List ℕ → List ℕ) → bad ≡ labelled said l
+-- what taking a line apart by the values of hex digits tells, with room for 512 bytes: of a line of its form, and of another
+pub record Whole (l : List ℕ) (p : Parted) (frame : List ℕ) : Type 0 where
+  pub few : p.count ≤ 512
+  pub whole : p.tab + 1 + 2 * p.count ≡ length l
+  pub good : (said : List ℕ → List ℕ) → take p.tab l ++ said (take p.count frame) ≡ labelled said l
+
+pub record Other (l : List ℕ) (p : Parted) : Type 0 where
+  pub few : p.count ≤ 512
+  pub other : (said : List ℕ → List ℕ) → bad ≡ labelled said l
+
+abbrev pub Apart : List ℕ → Result Parted Parted → List ℕ → Type 0
+Apart l (Ok p) frame = Whole l p frame
+Apart l (Err p) frame = Other l p
 
 -- nothing, of a line that is too long
-apart_long : (l frame : List ℕ) (r : Parted) → line_most < length l → r ≡ record { good = false; tab = 0; count = 0 } → Apart l r frame
-apart_long l frame r h e = rw e (record {
-  few = omega arith;
-  whole = λ g. absurd (false≢true g);
-  good = λ g said. absurd (false≢true g);
-  other = λ g said. sym (answer_long said l h);
-})
+apart_long : (l frame : List ℕ) → line_most < length l → Apart l (Err (record { tab = 0; count = 0 })) frame
+apart_long l frame h = record { few = omega arith; other = λ said. sym (answer_long said l h) }
 
 -- its label and its bytes, of another
 module _ (l after : List ℕ) (tab count : ℕ) (short : length l ≤ line_most) (e : tab ≡ length (label l))
     (found : Decoding l (tab + 1) 512 count after) where
-  apart_short : Apart l (record { good = eqb (tab + 1 + 2 * count) (length l); tab = tab; count = count }) after
-  apart_short = record {
+  abbrev found_there : Parted
+  found_there = record { tab = tab; count = count }
+
+  apart_whole : eqb (tab + 1 + 2 * count) (length l) ≡ true → Whole l found_there after
+  apart_whole g =
+      let w : tab + 1 + 2 * count ≡ length l = eqb-true _ _ g in
+      record {
+        few = found.few;
+        whole = w;
+        good = λ said.
+            ap (λ (u : List ℕ). take tab l ++ said u) found.bytes
+            ∙ line_good said l tab count e short (omega (arith, w)) found.count w;
+      }
+
+  apart_other : eqb (tab + 1 + 2 * count) (length l) ≡ false → Other l found_there
+  apart_other g = record {
     few = found.few;
-    whole = λ g. eqb-true _ _ g;
-    good = λ g said.
-        let w : tab + 1 + 2 * count ≡ length l = eqb-true _ _ g in
-        ap (λ (u : List ℕ). take tab l ++ said u) found.bytes
-        ∙ line_good said l tab count e short (omega (arith, w)) found.count w;
-    other = λ g said.
+    other = λ said.
         cases (holds? (ltb tab (length l)))
         (λ k. line_part said l tab count e short (ltb-true tab (length l) k) found.count (eqb-false (tab + 1 + 2 * count) (length l) g))
         (λ k. let past = ltb-false tab (length l) k in sym (answer_tabless said l (omega (arith, e, past))));
   }
 
-pub apart : (table l frame after : List ℕ) (r : Parted) → table ≡ worths 256 → Bytes l → length frame ≡ 512 →
+  apart_short : Apart l (cond (eqb (tab + 1 + 2 * count) (length l)) (Ok found_there) (Err found_there)) after
+  apart_short =
+      cases (holds? (eqb (tab + 1 + 2 * count) (length l))) (λ g. simp g (apart_whole g)) (λ g. simp g (apart_other g))
+
+pub apart : (table l frame after : List ℕ) (r : Result Parted Parted) → table ≡ worths 256 → Bytes l → length frame ≡ 512 →
     (r ≡ parted table l (length frame)) × (after ≡ laid frame 0 (frame_by table l (length frame))) →
     Apart l r after
 unfolding parted
 apart table l frame after r t b room e =
     cases (holds? (ltb line_most (length l)))
-    (λ long. apart_long l after r (ltb-true line_most (length l) long) (e.0 ∙ simp long))
+    (λ long. rw e.0 (simp long (apart_long l after (ltb-true line_most (length l) long))))
     (λ short.
     let bytes = bytes_behind table l (length frame) in
     let stored : after ≡ laid frame 0 bytes = e.1 ∙ simp short in

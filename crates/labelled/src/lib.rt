@@ -1,5 +1,6 @@
 // A line that is a label, a tab and a frame in hex: taken apart, and what is stored to answer it. A store takes as much
-// as has room and returns the place behind it, so that nothing is asked of a caller.
+// as has room and returns the place behind it, so that nothing is asked of a caller. By hand, and not by Display: the
+// clauses say what a buffer of any size then holds, also where its room ends.
 #![tactic(auto)]
 
 ghost use Rattle.std.specs.Prelude.{◌%◌, [], ◌∷◌, ◌≡◌, length};
@@ -17,36 +18,32 @@ use octets::{copy, left};
 // Room for the bytes that the digits of a line stand for.
 pub const FRAME_MOST: usize = 512;
 
-// A line taken apart: whether it is of its form, where its first tab stands, or its end, and how many bytes the digits
-// behind that gave; of a line that is too long, false and zeros.
-#[derive(Clone, Copy)]
+// A line taken apart: where its first tab stands, or its end, and how many bytes the digits behind that gave.
+#[derive(Clone, Copy, Debug, PartialEq, Eq)]
 pub struct Parted {
-    pub good: bool,
     pub tab: usize,
     pub count: usize,
 }
 
 // Takes a line apart, given without its line feed, by a lent table of what bytes count for in a pair of digits
 // (`hexadecimal::values`), and stores the bytes of its frame from the beginning of a buffer on, as many as have room.
-pub fn part(line: &[u8], values: &[u16; 256], frame: &mut [u8]) -> Parted
+// A line that is not of its form is refused with as much as was found of it, and one that is too long with zeros.
+pub fn part(line: &[u8], values: &[u16; 256], frame: &mut [u8]) -> Result<Parted, Parted>
     ensures value { result ≡ parted values.now line.now (length frame.old) }
     ensures frame_after { frame.new
         ≡ laid frame.old 0
         (frame_by values.now line.now (length frame.old)) }
 {
     if line.len() > LINE_MOST {
-        return Parted {
-            good: false,
-            tab: 0,
-            count: 0,
-        };
+        return Err(Parted { tab: 0, count: 0 });
     }
     let tab = find(line, 0, b'\t', b'\t');
     let count = decode_by(line, tab + 1, values, frame);
-    Parted {
-        good: tab + 1 + 2 * count == line.len(),
-        tab,
-        count,
+    let whole = tab + 1 + 2 * count == line.len();
+    if whole {
+        Ok(Parted { tab, count })
+    } else {
+        Err(Parted { tab, count })
     }
 }
 
@@ -82,10 +79,13 @@ pub fn put_decimal(n: usize, out: &mut [u8], at: usize) -> usize
     let mut digits = [0u8; 20];
     let mut rest = n;
     let mut from = 20;
+
+    // Kept as a while: what is left of the number ends it, and a for over the places would have an end that none
+    // reaches.
     while rest > 9 {
         from -= 1;
         digits[from] = b'0' + (rest % 10) as u8;
-        rest = rest / 10;
+        rest /= 10;
     }
     from -= 1;
     digits[from] = b'0' + rest as u8;
@@ -116,8 +116,9 @@ pub fn last_hex_digit(n: u64) -> u8
 fn put_pair(byte: u8, out: &mut [u8], at: usize) -> usize
     ensures { Put out.old at (hex_by 2 byte) out.new result }
 {
-    let high = last_hex_digit(byte as u64 / 16);
-    let low = last_hex_digit(byte as u64);
+    let number = u64::from(byte);
+    let high = last_hex_digit(number / 16);
+    let low = last_hex_digit(number);
     let next = put_byte(high, out, at);
     put_byte(low, out, next)
 }
@@ -126,12 +127,12 @@ fn put_pair(byte: u8, out: &mut [u8], at: usize) -> usize
 pub fn put_bytes(bytes: &[u8], out: &mut [u8], at: usize) -> usize
     ensures { Put out.old at (hexed bytes.now) out.new result }
 {
-    if bytes.len() == 0 {
+    if bytes.is_empty() {
         return put_byte(b'-', out, at);
     }
     let mut next = at;
-    for i in 0..bytes.len() {
-        next = put_pair(bytes[i], out, next);
+    for byte in bytes {
+        next = put_pair(*byte, out, next);
     }
     next
 }

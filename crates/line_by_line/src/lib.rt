@@ -4,12 +4,13 @@
 // left.
 #![tactic(auto)]
 
-ghost use Rattle.std.specs.Prelude.{◌≤◌, ◌≡◌, length};
-ghost use Rattle.line_by_line.specs.Held.{held, line_after, afresh, Roomy, Ready, HandsOver};
+ghost use Rattle.std.specs.Prelude.{◌≤◌, ◌≡◌, IfSome, length};
+ghost use Rattle.line_cutter.specs.Line.{taken};
+ghost use Rattle.line_by_line.specs.Held.{unused, line_after, found, Roomy, Ready, HandsOver};
 
-use line_cutter::cut;
-use line_io::{ENDED, FAILED, MORE, read_some, write_all};
-use octets::{least, left};
+use line_cutter::{KEPT_MOST, Taken, cut};
+use line_io::{Next, read_some, write_all};
+use octets::left;
 
 // Bytes that a program reads at once, and that it collects.
 pub const CHUNK: usize = 65536;
@@ -17,36 +18,44 @@ pub const CHUNK: usize = 65536;
 // Room for an answer: where less is left, the answers so far are written first.
 pub const ANSWER_MOST: usize = 4096;
 
-// Where a run stands: whether a line was found, and how many bytes of it are kept; how many bytes of the answers wait;
-// which part of the chunk is still to be used; and what comes behind that.
-#[derive(Clone, Copy)]
+// Where a run stands: how many bytes are kept of the line that was found; how many bytes of the answers wait; which
+// part of the chunk is still to be used; and what comes behind that.
+#[derive(Clone, Copy, Debug, PartialEq, Eq)]
 pub struct Turn {
-    pub found: bool,
-    pub n: usize,
+    pub found: Option<usize>,
     pub used: usize,
     pub at: usize,
     pub end: usize,
-    pub next: u8,
+    pub next: Next,
 }
 
 impl Turn {
     // Nothing is read yet.
     pub const START: Turn = Turn {
-        found: false,
-        n: 0,
+        found: None,
         used: 0,
         at: 0,
         end: 0,
-        next: MORE,
+        next: Next::More,
     };
+
+    // A line has ended in the chunk.
+    fn with_line(self, taken: Taken) -> Self
+        ensures { result ≡ found self taken }
+    {
+        Turn {
+            found: Some(taken.n),
+            at: taken.at,
+            ..self
+        }
+    }
 }
 
 // Writes the answers that wait. Where that fails, nothing more is to be used.
 fn flush(rt: &(impl Print + Eprint), turn: Turn, out: &[u8]) -> Turn
     ensures used_value { result.used ≡ 0 }
-    ensures n_value { result.n ≡ turn.n }
 {
-    let used = least(turn.used, out.len());
+    let used = turn.used.min(out.len());
     if write_all(rt, &out[..used]) {
         return Turn { used: 0, ..turn };
     }
@@ -54,31 +63,28 @@ fn flush(rt: &(impl Print + Eprint), turn: Turn, out: &[u8]) -> Turn
         used: 0,
         at: 0,
         end: 0,
-        next: FAILED,
+        next: Next::Failed,
         ..turn
     }
 }
 
 // For a new line: writes the answers that wait where they leave too little room for another.
 fn make_room(rt: &(impl Print + Eprint), turn: Turn, out: &[u8]) -> Turn
-    ensures n_value { result.n ≡ 0 }
     ensures used_in_bounds { result.used ≤ length out.now }
-    ensures value { Roomy turn out.now → result ≡ afresh turn }
+    ensures value { Roomy turn out.now → result ≡ turn }
 {
-    let fresh = Turn { n: 0, ..turn };
     if left(out, turn.used) < ANSWER_MOST {
-        return flush(rt, fresh, out);
+        return flush(rt, turn, out);
     }
-    fresh
+    turn
 }
 
 // Writes the answers that wait, and reads once where the input goes on.
 fn refill(rt: &(impl Input + Print + Eprint), turn: Turn, chunk: &mut [u8], out: &[u8]) -> Turn
     ensures used_value { result.used ≡ 0 }
-    ensures n_value { result.n ≡ turn.n }
 {
     let flushed = flush(rt, turn, out);
-    if flushed.next != MORE {
+    if flushed.next != Next::More {
         return flushed;
     }
     let got = read_some(rt, chunk);
@@ -91,55 +97,54 @@ fn refill(rt: &(impl Input + Print + Eprint), turn: Turn, chunk: &mut [u8], out:
 }
 
 // Adds what the chunk still has of the line at hand to the n bytes of it in the buffer, as many as have room.
-fn take_held(turn: Turn, chunk: &[u8], line: &mut [u8]) -> Turn
-    requires { turn.n ≤ length line.old }
+fn take_held(turn: Turn, n: usize, chunk: &[u8], line: &mut [u8]) -> Taken
+    requires { n ≤ length line.old }
     ensures n_in_bounds { result.n ≤ length line.old }
-    ensures used_value { result.used ≡ turn.used }
-    ensures value { result ≡ held turn chunk.now line.old }
-    ensures line_after { line.new ≡ line_after turn chunk.now line.old }
+    ensures value { result ≡ taken (unused turn chunk.now) turn.at line.old n }
+    ensures line_after { line.new ≡ line_after turn n chunk.now line.old }
 {
-    let end = least(turn.end, chunk.len());
-    let taken = cut(&chunk[..end], turn.at, line, turn.n);
-    Turn {
-        found: taken.ended,
-        n: taken.n,
-        at: taken.at,
-        ..turn
-    }
+    let end = turn.end.min(chunk.len());
+    cut(&chunk[..end], turn.at, line, n)
 }
 
-// Reads on till the line at hand ends or the input does, where a last line need not be ended. (A proved loop has to
-// end, and nothing says that the input does: the turns are counted, up to a number that no run reaches.)
+// Reads on till the line at hand, of which n bytes are kept, ends or the input does, where a last line need not be
+// ended. (A proved loop has to end, and nothing says that the input does: the turns are counted, up to a number that no
+// run reaches.)
 fn read_on(
     rt: &(impl Input + Print + Eprint),
     turn: Turn,
+    n: usize,
     chunk: &mut [u8],
     line: &mut [u8],
     out: &[u8],
 ) -> Turn
-    requires { turn.n ≤ length line.old }
-    ensures n_in_bounds { result.n ≤ length line.old }
+    requires { n ≤ length line.old }
+    ensures n_in_bounds { IfSome result.found (λ k. k ≤ length line.old) }
     ensures used_value { result.used ≡ 0 }
 {
+    let mut n = n;
     let mut turn = refill(rt, turn, chunk, out);
     for _ in 0..u64::MAX {
-        if turn.next != MORE {
+        if turn.next != Next::More {
             break;
         }
-        turn = take_held(turn, chunk, line);
-        if turn.found {
-            return turn;
+        let taken = take_held(turn, n, chunk, line);
+        if taken.ended {
+            return turn.with_line(taken);
         }
+        n = taken.n;
         turn = refill(rt, turn, chunk, out);
     }
+    let ended = turn.next == Next::Ended && n > 0;
     Turn {
-        found: turn.next == ENDED && turn.n > 0,
+        found: ended.then_some(n),
         ..turn
     }
 }
 
-// The next line: where one is found, its first n bytes stand in the buffer, as many as have room. After the last line
+// The next line: where one is found, its first bytes stand in the buffer, as many as have room. After the last line
 // none is found, nor after an error, which is told on standard error. What was collected has then been written.
+// Three buffers, here and in `read_on`: each is lent at any size, and is spoken of by itself in `hands_over`.
 pub fn next_line(
     rt: &(impl Input + Print + Eprint),
     turn: Turn,
@@ -147,15 +152,37 @@ pub fn next_line(
     line: &mut [u8],
     out: &[u8],
 ) -> Turn
-    ensures n_in_bounds { result.n ≤ length line.old }
+    ensures n_in_bounds { IfSome result.found (λ n. n ≤ length line.old) }
     ensures used_in_bounds { result.used ≤ length out.now }
     ensures hands_over { Ready turn chunk.old out.now
         → HandsOver turn chunk.old line.old result chunk.new line.new }
 {
     let ready = make_room(rt, turn, out);
-    let held = take_held(ready, chunk, line);
-    if held.found {
-        return held;
+    let taken = take_held(ready, 0, chunk, line);
+    if taken.ended {
+        return ready.with_line(taken);
     }
-    read_on(rt, held, chunk, line, out)
+    read_on(rt, ready, taken.n, chunk, line, out)
+}
+
+// Answers each line of standard input by what is lent: it is handed a line without its line feed, as much of it as is
+// kept, stores its answer in a buffer from a place on, and returns the place behind it. (A proved loop has to end, and
+// nothing says that the input does: the lines are counted, up to a number that no run reaches.)
+pub fn answer_lines<F: FnMut(&[u8], &mut [u8], usize) -> usize>(
+    rt: &(impl Input + Print + Eprint),
+    mut answer: F,
+)
+    requires { F.IsAlwaysCallable answer }
+{
+    let mut chunk = [0u8; CHUNK];
+    let mut line = [0u8; KEPT_MOST];
+    let mut out = [0u8; CHUNK];
+    let mut turn = Turn::START;
+    for _ in 0..u64::MAX {
+        turn = next_line(rt, turn, &mut chunk, &mut line, &out);
+        let Some(n) = turn.found else {
+            break;
+        };
+        turn.used = answer(&line[..n], &mut out, turn.used);
+    }
 }

@@ -8,7 +8,7 @@ use mathlib.Core.List.{List, [], ◌∷◌, ◌++◌, append-nil}
 use mathlib.Core.Path.{◌≡◌, refl, sym, ap, ◌∙◌}
 use lib.ListN.{length, take, drop}
 use Rattle.octets.specs.Stored.{Stored}
-use Rattle.line_cutter.specs.Answers.{Left, answers, output, fed_to, printed}
+use Rattle.line_cutter.specs.Answers.{Left, stays, tells, answers, output, fed_to, printed}
 use Rattle.line_cutter.specs.Line.{kept_most, line_feed, line_of, line_ends, behind}
 use Rattle.line_cutter.specs.Lines.{ended, begun, last, lines, run, joined}
 use Rattle.line_cutter.specs.Telling.{Standing, told, worked_to, told_in_chunks}
@@ -16,39 +16,33 @@ use Rattle.line_cutter.proofs.Line.{Free}
 use Rattle.line_cutter.proofs.Telling.{worked_line, worked_ended, worked_open, worked_all, told_whole}
 
 -- such a program is one with a state that has nothing in it: its laws are those of a program with a state
-abbrev pub stays : Unit {0} → List ℕ → Unit {0}
-stays s l = s
-
 abbrev pub left : Standing (Unit {0}) → Left
 left w = record { out = w.out; used = w.used; kept = w.kept }
 
 module _ (answer : List ℕ → List ℕ) where
-  abbrev pub tells : Unit {0} → List ℕ → List ℕ
-  tells s l = answer l
-
-  answers_told : (s : Unit {0}) (ls : List (List ℕ)) → answers answer ls ≡ told stays tells s ls
+  answers_told : (s : Unit {0}) (ls : List (List ℕ)) → answers answer ls ≡ told stays (tells answer) s ls
   unfolding answers told
   answers_told s [] = refl
   answers_told s (l ∷ ls) = ap (λ (x : List ℕ). answer l ++ x) (answers_told s ls)
 
   -- what a chunk leads to is the same, but for the state
-  pub fed_worked : (l t out : List ℕ) (u : ℕ) → fed_to answer l t out u ≡ left (worked_to stays tells tt l t out u)
+  pub fed_worked : (l t out : List ℕ) (u : ℕ) → fed_to answer l t out u ≡ left (worked_to stays (tells answer) tt l t out u)
   unfolding fed_to worked_to
   fed_worked l t out u = rw (answers_told tt (ended l t))
 
   -- a line ends: its answer, and what follows
   pub fed_line : (x l t out o : List ℕ) (u r : ℕ) → Free line_feed x → Stored out u (answer (l ++ x)) o r →
       fed_to answer [] t o r ≡ fed_to answer l (x ++ (line_feed ∷ t)) out u
-  fed_line x l t out o u r f s = simp fed_worked (ap left (worked_line stays tells x l t out o tt u r f s))
+  fed_line x l t out o u r f s = simp fed_worked (ap left (worked_line stays (tells answer) x l t out o tt u r f s))
 
   pub fed_ended : (l s out o : List ℕ) (u r : ℕ) → line_ends s ≡ true → Stored out u (answer (l ++ line_of s)) o r →
       fed_to answer [] (behind s) o r ≡ fed_to answer l s out u
-  fed_ended l s out o u r h t = simp fed_worked (ap left (worked_ended stays tells l s out o tt u r h t))
+  fed_ended l s out o u r h t = simp fed_worked (ap left (worked_ended stays (tells answer) l s out o tt u r h t))
 
   -- no line ends: nothing is written, and as much is kept as tells the line
   pub fed_open : (l s out : List ℕ) (u : ℕ) → line_ends s ≡ false →
       fed_to answer (take kept_most (l ++ line_of s)) [] out u ≡ fed_to answer l s out u
-  fed_open l s out u h = simp fed_worked (ap left (worked_open stays tells l s out tt u h))
+  fed_open l s out u h = simp fed_worked (ap left (worked_open stays (tells answer) l s out tt u h))
 
   -- with nothing kept of a line, whatever the buffer holds
   pub fed_empty : (line chunk out o : List ℕ) (m n at to used next : ℕ) → m ≡ 0 → n ≡ 0 →
@@ -67,7 +61,7 @@ module _ (answer : List ℕ → List ℕ) where
       fed_to answer (take held line) (drop at chunk) out used ≡ whole →
       record { out = out; used = used; kept = take held line } ≡ whole
   fed_all chunk line out held used at whole h k g e =
-      ap left (worked_all stays tells chunk line out tt held used at _ h k g refl) ∙ sym (fed_worked _ _ out used) ∙ e
+      ap left (worked_all stays (tells answer) chunk line out tt held used at _ h k g refl) ∙ sym (fed_worked _ _ out used) ∙ e
 
   -- the end of the input
   pub last_none : (l : List ℕ) (n : ℕ) → n ≡ 0 → [] ≡ answers answer (last (take n l))
@@ -80,7 +74,7 @@ module _ (answer : List ℕ → List ℕ) where
   last_some (b ∷ l) h = sym (append-nil (answer (b ∷ l)))
 
   -- what the chunks write is the same too
-  printed_told : (s : Unit {0}) (l : List ℕ) (cs : List (List ℕ)) → printed answer l cs ≡ told_in_chunks stays tells s l cs
+  printed_told : (s : Unit {0}) (l : List ℕ) (cs : List (List ℕ)) → printed answer l cs ≡ told_in_chunks stays (tells answer) s l cs
   unfolding printed told_in_chunks
   printed_told s l [] = answers_told s (last l)
   printed_told s l (c ∷ cs) = rw (answers_told s (ended l c), printed_told (run stays s (ended l c)) (take kept_most (begun l c)) cs)
@@ -90,4 +84,4 @@ module _ (answer : List ℕ → List ℕ) where
       printed answer [] cs ≡ output answer (joined cs)
   unfolding output
   printed_whole sees cs =
-      printed_told tt [] cs ∙ told_whole stays tells (λ s l. refl) (λ s l. sees l) tt cs ∙ sym (answers_told tt (lines (joined cs)))
+      printed_told tt [] cs ∙ told_whole stays (tells answer) (λ s l. refl) (λ s l. sees l) tt cs ∙ sym (answers_told tt (lines (joined cs)))

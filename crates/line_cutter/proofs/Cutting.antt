@@ -12,12 +12,12 @@ use Rattle.octets.specs.Buffer.{laid, fitting}
 use Rattle.octets.specs.Stored.{Stored}
 use Rattle.octets.proofs.Stored.{same}
 use Rattle.line_cutter.specs.declared.Taken.{Taken}
-use Rattle.line_cutter.specs.Answers.{Onward, fed_to}
+use Rattle.line_cutter.specs.Answers.{Onward, stays, tells, fed_to}
 use Rattle.line_cutter.specs.Line.{kept_most, line_feed, line_of, line_ends, taken}
 use Rattle.line_cutter.specs.Telling.{worked_to}
-use Rattle.line_cutter.proofs.Answers.{stays, tells, left, fed_worked}
+use Rattle.line_cutter.proofs.Answers.{left, fed_worked}
 use Rattle.line_cutter.proofs.Line.{before_length, taken_kept, taken_end, taken_small, taken_feed, taken_all, taken_behind, taken_rest}
-use Rattle.line_cutter.proofs.Lines.{Sees}
+use Rattle.line_cutter.specs.Lines.{Sees}
 use Rattle.line_cutter.proofs.Telling.{worked_ended, worked_open}
 
 -- an answer looks at no more of a line than is kept

@@ -9,7 +9,7 @@ use lib.Dec.{eqb}
 use lib.ListN.{length, take, length-take}
 use lib.Seq.{take-take}
 use Rattle.octets.proofs.Cases.{cases, holds?}
-use Rattle.line_cutter.specs.Lines.{ended, begun, last, lines, run, joined, in_chunks}
+use Rattle.line_cutter.specs.Lines.{ended, begun, last, lines, run, joined, in_chunks, Sees}
 use Rattle.line_cutter.proofs.Line.{Free}
 
 -- bytes without a line feed end no line
@@ -63,10 +63,6 @@ unfolding begun
 begun_kept k [] l m e = e
 begun_kept k (b ∷ s) l m e =
     cases (holds? (eqb b 10)) (λ f. simp f) (λ f. simp f (begun_kept k s (l ++ (b ∷ [])) (m ++ (b ∷ [])) (take_more k l m (b ∷ []) e)))
-
--- a step, or what is said of a line, looks at k bytes of it
-abbrev pub Sees : {S T : Type 0} → ℕ → (S → List ℕ → T) → Type 0
-Sees {S} k f = (s : S) (l : List ℕ) → f s (take k l) ≡ f s l
 
 module _ {S : Type 0} (step : S → List ℕ → S) where
   -- work on some lines and then on others is work on all

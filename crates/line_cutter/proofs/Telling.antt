@@ -13,10 +13,10 @@ use Rattle.octets.specs.Buffer.{laid}
 use Rattle.octets.specs.Stored.{Stored}
 use Rattle.octets.proofs.Buffer.{laid_none, laid_join}
 use Rattle.line_cutter.specs.Line.{kept_most, line_feed, line_of, line_ends, behind}
-use Rattle.line_cutter.specs.Lines.{ended, begun, last, lines, run, joined, in_chunks}
+use Rattle.line_cutter.specs.Lines.{ended, begun, last, lines, run, joined, in_chunks, Sees}
 use Rattle.line_cutter.specs.Telling.{Standing, told, worked_to, told_in_chunks}
 use Rattle.line_cutter.proofs.Line.{Free, free_first, line_ended, line_open}
-use Rattle.line_cutter.proofs.Lines.{Sees, ended_free, begun_free, ended_line, begun_line, however_cut}
+use Rattle.line_cutter.proofs.Lines.{ended_free, begun_free, ended_line, begun_line, however_cut}
 
 module _ {S : Type 0} (step : S → List ℕ → S) (says : S → List ℕ → List ℕ) where
   -- a line ends: what is written for it, and what follows from the next state on

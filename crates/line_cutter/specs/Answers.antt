@@ -10,7 +10,14 @@ pub record Left : Type 0 where
   pub used : ℕ
   pub kept : List ℕ
 
+-- such a program is one with a state that has nothing in it
+abbrev pub stays : Unit {0} → List ℕ → Unit {0}
+stays s l = s
+
 module _ (answer : List ℕ → List ℕ) where
+  abbrev pub tells : Unit {0} → List ℕ → List ℕ
+  tells s l = answer l
+
   -- the answers to lines, one after the other
   unfoldable pub answers : List (List ℕ) → List ℕ
   answers [] = []

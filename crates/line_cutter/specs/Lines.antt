@@ -1,6 +1,6 @@
 -- All lines of an input: each that a line feed ends, and a last one that need not be ended. An input that ends in a
 -- line feed has no further line (document 01, "Line program": "A last line need not be ended").
-use Rattle.std.specs.Prelude.{ℕ, cond, List, [], ◌∷◌, ◌++◌, eqb, take}
+use Rattle.std.specs.Prelude.{ℕ, cond, List, [], ◌∷◌, ◌++◌, ◌≡◌, eqb, take}
 use Rattle.line_cutter.specs.{Line.line_feed}
 
 -- the lines that end in s, where l is what came of the first one before s
@@ -35,3 +35,7 @@ joined (c ∷ cs) = c ++ joined cs
 unfoldable pub in_chunks : {S : Type 0} → (S → List ℕ → S) → ℕ → S → List ℕ → List (List ℕ) → S
 in_chunks step k s l [] = run step s (last l)
 in_chunks step k s l (c ∷ cs) = in_chunks step k (run step s (ended l c)) (take k (begun l c)) cs
+
+-- a step, or what is said of a line, looks at k bytes of it
+abbrev pub Sees : {S T : Type 0} → ℕ → (S → List ℕ → T) → Type 0
+Sees {S} k f = (s : S) (l : List ℕ) → f s (take k l) ≡ f s l

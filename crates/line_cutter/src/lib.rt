@@ -16,7 +16,7 @@ pub const LINE_MOST: usize = 1024;
 pub const KEPT_MOST: usize = LINE_MOST + 1;
 
 // What was taken of a chunk: how many bytes of the line at hand are kept, the place up to which the chunk is used, and
-// whether the line has ended.
+// whether the line has ended. The first two are told in both cases, so this is no Option.
 #[derive(Clone, Copy)]
 pub struct Taken {
     pub n: usize,
@@ -28,29 +28,24 @@ pub struct Taken {
 pub fn find(s: &[u8], at: usize, a: u8, b: u8) -> usize
     ensures { result ≡ at + length (before a b (drop at s.now)) }
 {
-    let mut i = at;
-    while i < s.len() {
+    for i in at..s.len() {
         let c = s[i];
-        if c == a {
+        if c == a || c == b {
             return i;
         }
-        if c == b {
-            return i;
-        }
-        i += 1;
     }
-    i
+    s.len().max(at)
 }
 
 // Whether a byte stands at a place of s.
 pub fn is_at(s: &[u8], i: usize, b: u8) -> bool
     ensures { result ≡ is_at s.now i b }
 {
-    if i < s.len() { s[i] == b } else { false }
+    i < s.len() && s[i] == b
 }
 
 // Adds the bytes of a chunk, from a place on and up to a line feed, to the n bytes of the line at hand, as many as have
-// room. The line feed is used up, and is not kept.
+// room. The line feed is used up, and is not kept. (Buffer and count are two arguments: a buffer of any size is lent.)
 pub fn cut(chunk: &[u8], at: usize, line: &mut [u8], n: usize) -> Taken
     ensures value { result ≡ taken (drop at chunk.now) at line.old n }
     ensures line_after { line.new

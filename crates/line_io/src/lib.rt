@@ -8,17 +8,18 @@ ghost use Rattle.line_io.specs.Counts.{IsPrefixLen};
 use std::io::{Error, ErrorKind, Read};
 
 // What comes next: more of the input, its end, or nothing, since an error was told.
-pub const MORE: u8 = 0;
+#[derive(Clone, Copy, Debug, PartialEq, Eq)]
+pub enum Next {
+    More,
+    Ended,
+    Failed,
+}
 
-pub const ENDED: u8 = 1;
-
-pub const FAILED: u8 = 2;
-
-// How many bytes were read, and what comes next.
-#[derive(Clone, Copy)]
+// How many bytes were read, and what comes next. The count is no part of `More`: so many are fed, whatever comes next.
+#[derive(Clone, Copy, Debug, PartialEq, Eq)]
 pub struct Got {
     pub count: usize,
-    pub next: u8,
+    pub next: Next,
 }
 
 // Whether the call that has just failed was interrupted; any other error is told.
@@ -40,10 +41,15 @@ pub fn read_some(rt: &(impl Input + Eprint), chunk: &mut [u8]) -> Got
             Ok(0) => {
                 return Got {
                     count: 0,
-                    next: ENDED,
+                    next: Next::Ended,
                 };
             }
-            Ok(count) => return Got { count, next: MORE },
+            Ok(count) => {
+                return Got {
+                    count,
+                    next: Next::More,
+                };
+            }
             Err(error) => {
                 if !interrupted(rt, "read", error) {
                     break;
@@ -53,23 +59,23 @@ pub fn read_some(rt: &(impl Input + Eprint), chunk: &mut [u8]) -> Got
     }
     Got {
         count: 0,
-        next: FAILED,
+        next: Next::Failed,
     }
 }
 
 // Writes all bytes and answers true; or tells what failed, when some may have been written, and answers false.
 pub fn write_all(rt: &(impl Print + Eprint), bytes: &[u8]) -> bool {
-    let mut done = 0;
+    let mut rest = bytes;
     for _ in 0..u64::MAX {
-        if done >= bytes.len() {
+        if rest.is_empty() {
             break;
         }
-        match rt.write_some(&bytes[done..]) {
+        match rt.write_some(rest) {
             Ok(0) => {
                 let _ = eprintln!(rt; "write: nothing was taken");
                 return false;
             }
-            Ok(put) => done += put,
+            Ok(put) => rest = &rest[put..],
             Err(error) => {
                 if !interrupted(rt, "write", error) {
                     return false;
@@ -77,5 +83,5 @@ pub fn write_all(rt: &(impl Print + Eprint), bytes: &[u8]) -> bool {
             }
         }
     }
-    done == bytes.len()
+    rest.is_empty()
 }

@@ -5,18 +5,19 @@ use native.Mathlib.Omega.{arith}
 use mathlib.Core.Bool.{true}
 use mathlib.Core.List.{List, [], ◌∷◌, ◌++◌, append_assoc}
 use mathlib.Core.Path.{◌≡◌, refl, sym, ap, ◌∙◌}
+use borrow.Author.Tests.{lt-ltb}
 use lib.ListN.{length, take, drop, length-append, length-drop}
 use lib.Seq.{length-take-le}
 use Rattle.octets.proofs.Lists.{take_again}
-use Rattle.line_cutter.specs.Answers.{fed_to}
-use Rattle.line_cutter.specs.Line.{line_most, before, is_at}
-use Rattle.line_cutter.proofs.Line.{Free, free_append, free_first, free_second, before_part, there, split_there}
+use Rattle.line_cutter.specs.Answers.{stays, tells}
+use Rattle.line_cutter.specs.Line.{line_most, before, is_at, line_of, line_ends}
+use Rattle.line_cutter.proofs.Line.{Free, free_append, free_first, free_second, before_free, before_part, there, split_there}
 use Rattle.hexadecimal.specs.Hex.{unhex, decoded}
 use Rattle.hexadecimal.proofs.Hex.{unhex_take, whole_good}
 use Rattle.lines.specs.Answer.{said, answer}
 use Rattle.octets.specs.Stored.{Stored}
 use Rattle.labelled.proofs.Answer.{feed_foreign, foreign_free, answer_good}
-use Rattle.line_cutter.proofs.Answers.{fed_line}
+use Rattle.line_teller.specs.Quick.{Quick}
 use Rattle.octets.proofs.Stored.{same}
 
 module _ (chunk : List ℕ) (at tab n : ℕ) (e : tab ≡ at + length (before 9 10 (drop at chunk))) (t : is_at chunk tab 9 ≡ true)
@@ -68,11 +69,28 @@ module _ (chunk : List ℕ) (at tab n : ℕ) (e : tab ≡ at + length (before 9 
       free_append 10 label (9 ∷ digits) (rw label_before (free_second 9 10 (drop at chunk)))
       (refl, foreign_free 10 digits feed_foreign (whole_good digits digits_whole).1)
 
-  pub quick_fed : (out o : List ℕ) (u r : ℕ) →
-      Stored out u (take (tab - at) (drop at chunk) ++ said (decoded chunk (tab + 1) 512)) o r →
-      fed_to answer [] (drop (tab + 1 + 2 * n + 1) chunk) o r ≡ fed_to answer [] (drop at chunk) out u
+  line : line_of (drop at chunk) ≡ label ++ (9 ∷ digits)
+  line = ap (λ (l : List ℕ). line_of l) laid_out ∙ before_free 10 (label ++ (9 ∷ digits)) (drop (tab + 1 + 2 * n + 1) chunk) no_feed
+
+  line_length : length (line_of (drop at chunk)) ≡ length label + 1 + 2 * n
+  line_length = rw (line, length-append label) (omega (arith, digits_length))
+
+  ends : line_ends (drop at chunk) ≡ true
+  ends =
+      let l = label ++ (9 ∷ digits) in
+      let e = ap length laid_out ∙ length-append l (10 ∷ drop (tab + 1 + 2 * n + 1) chunk) in
+      lt-ltb _ _ (omega (arith, e, ap length line))
+
+  pub quick_told : (out o : List ℕ) (used next : ℕ) → next ≤ used + length (take (tab - at) (drop at chunk)) + 6 →
+      Stored out used (take (tab - at) (drop at chunk) ++ said (decoded chunk (tab + 1) 512)) o next →
+      Quick stays (tells answer) 5 tt tt chunk at out used o (record { at = tab + 1 + 2 * n + 1; used = next })
   unfolding label
-  quick_fed out o u r s =
+  quick_told out o used next few s =
       let a = ap (λ (l : List ℕ). label ++ said l) (sym digits_bytes) ∙ sym (answer_good said label digits no_tab short digits_whole) in
-      fed_line answer (label ++ (9 ∷ digits)) [] (drop (tab + 1 + 2 * n + 1) chunk) out o u r no_feed (same a s)
-      ∙ ap (λ (l : List ℕ). fed_to answer [] l out u) (sym laid_out)
+      record {
+        ends = ends;
+        place = omega (arith, line_length, label_length, e);
+        state = refl;
+        stored = same (a ∙ ap answer (sym line)) s;
+        few = omega (arith, line_length, few);
+      }

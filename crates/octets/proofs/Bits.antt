@@ -10,9 +10,9 @@ use lib.Arith.{mod-mul}
 use lib.Dec.{eqb}
 use lib.ListN.{length, set, length-set, get_or-append}
 use lib.Pow.{pow-add, pow_pos}
+use Rattle.std.proofs.lemmas.List.{set-append_left}
 use Rattle.octets.specs.Bits.{bits, bit_of, clear, clear_at}
 use Rattle.octets.proofs.Each.{same}
-use Rattle.octets.proofs.Lists.{set_append}
 
 -- a flag to a bit and back
 pub bit_back : (flag : Bool) → eqb (bit_of flag) 1 ≡ flag
@@ -62,7 +62,7 @@ clear_behind p l place at count e = rw (← e) (clear_after p l at count)
 -- bits cleared in front of other bytes
 pub clear_append : (l m : List ℕ) (place at count : ℕ) → place < length l → clear_at place at count (l ++ m) ≡ clear_at place at count l ++ m
 clear_append l m place at count h =
-    ap (λ (b : ℕ). set (l ++ m) place (clear at count b)) (get_or-append l m 0 place h) ∙ set_append l m place _ h
+    ap (λ (b : ℕ). set (l ++ m) place (clear at count b)) (get_or-append l m 0 place h) ∙ set-append_left l m place _ h
 
 pub clear_length : (l : List ℕ) (place at count : ℕ) → length (clear_at place at count l) ≡ length l
 clear_length l place at count = length-set l place _

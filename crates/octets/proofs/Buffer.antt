@@ -1,6 +1,6 @@
 -- Laws of a buffer after stores.
 -- Assumes nothing.
-use Prim.Native.Nat.{ℕ, zero, suc, ◌+◌, ◌-◌, ◌/◌, ◌%◌, ◌≤◌, ◌<◌, min}
+use Prim.Native.Nat.{ℕ, suc, ◌+◌, ◌-◌, ◌/◌, ◌%◌, ◌≤◌, ◌<◌, min}
 use native.Mathlib.Nat.{add-zero, zero-add, add-suc, suc-add}
 use native.Mathlib.Numerals.{add-one}
 use native.Mathlib.Omega.{arith}
@@ -10,6 +10,7 @@ use borrow.Author.Tests.{leb-true, leb-false, eqb-true, eqb-false}
 use lib.Dec.{leb, eqb}
 use lib.ListN.{length, set, take, drop}
 use lib.Seq.{sets, sets-eq, set_comm, set-set, length-sets}
+use Rattle.std.proofs.lemmas.List.{set_past}
 use Rattle.octets.specs.Little.{split}
 use Rattle.octets.specs.Buffer.{laid}
 use Rattle.octets.proofs.Cases.{cases, holds?}
@@ -19,11 +20,6 @@ pub store_next : (l : List ℕ) (p q j k v : ℕ) → q ≡ p + 1 → k ≡ j + 
     laid (set l p (v % 256)) q (split j (v / 256)) ≡ laid l p (split k v)
 unfolding split laid
 store_next l p q j k v e f = rw (e, f, add-one p, add-one j)
-
--- nothing left to store
-pub store_done : (l : List ℕ) (p k v : ℕ) → k ≡ 0 → laid l p (split k v) ≡ l
-unfolding split laid
-store_done l p k v e = rw e
 
 pub laid_none : (l : List ℕ) (at : ℕ) → laid l at [] ≡ l
 unfolding laid
@@ -51,11 +47,6 @@ unfolding laid
 laid_past l at [] h = refl
 laid_past l at (x ∷ b) h =
     ap (λ (m : List ℕ). sets m (suc at) b) (set_past l at x h) ∙ laid_past l (suc at) b (omega arith)
-  where
-    set_past : (l : List ℕ) (i x : ℕ) → length l ≤ i → set l i x ≡ l
-    set_past [] i x h = refl
-    set_past (y ∷ l) zero x h = absurd (omega arith)
-    set_past (y ∷ l) (suc i) x h = ap (λ (m : List ℕ). y ∷ m) (set_past l i x (omega arith))
 
 -- one store and the next are one
 pub laid_join : (l : List ℕ) (at next n : ℕ) (a b : List ℕ) → length a ≡ n → next ≡ at + n → laid (laid l at a) next b ≡ laid l at (a ++ b)
@@ -63,8 +54,9 @@ laid_join l at next n a b e f = rw (f, sym e) (laid_append l at a b)
 
 -- nothing is left to store, or no room is
 pub store_end : (l : List ℕ) (p k v : ℕ) → min k (length l - p) ≡ 0 → laid l p (split k v) ≡ l
+unfolding split laid
 store_end l p k v e =
-    cases (holds? (eqb k 0)) (λ t. store_done l p k v (eqb-true k 0 t))
+    cases (holds? (eqb k 0)) (λ t. rw (eqb-true k 0 t))
     (λ t. let h = eqb-false k 0 t in laid_past l p (split k v) (omega (arith, h)))
 
 -- one store and the next, from the place behind what had room, are one

@@ -134,6 +134,14 @@ number_join s at m n =
 pub number_next : (s : List ℕ) (at n : ℕ) → number s at (suc n) ≡ number s at 1 + 256 * number s (at + 1) n
 number_next s at n = let e : suc n ≡ 1 + n = omega arith in rw (e, number_join s at 1 n) (omega arith)
 
+-- one turn of reading n bytes from the last one down
+pub number_turn : (s : List ℕ) (at n i v : ℕ) {b : ℕ} → 0 < i → i ≤ n → v ≡ number s (at + i) (n - i) → b ≡ number s (at + (i - 1)) 1 →
+    256 * v + b ≡ number s (at + (i - 1)) (n - (i - 1))
+number_turn s at n i v h l e d =
+    let f : n - (i - 1) ≡ suc (n - i) = omega arith in
+    let g : at + (i - 1) + 1 ≡ at + i = omega arith in
+    rw (f, number_next s (at + (i - 1)) (n - i), g, e, d) (omega arith)
+
 -- read back from what was written
 pub number_back : (p : List ℕ) (at n v : ℕ) (t : List ℕ) → length p ≡ at → v < 256 ^ n → number (p ++ (split n v ++ t)) at n ≡ v
 unfolding number
@@ -160,6 +168,10 @@ pub number_within : (s : List ℕ) (at n k : ℕ) → Bytes s → n ≤ k → nu
 unfolding number
 number_within s at n k b h =
     join_small k (take n (drop at s)) (bytes_take n (drop at s) (bytes_drop at s b)) (rw (length-take n (drop at s)) (omega arith))
+
+-- what was read of at most eight bytes before the last turn: there is room for a byte more in a word
+pub number_room : (s : List ℕ) (at n i : ℕ) → Bytes s → 0 < i → n ≤ 8 → number s (at + i) (n - i) < 2 ^ 56
+number_room s at n i b h l = number_within s (at + i) (n - i) 7 b (omega arith)
 
 pub number_small : (s : List ℕ) (at n : ℕ) → Bytes s → at + n ≤ length s → number s at n < 256 ^ n
 number_small s at n b _ = number_within s at n n b (omega arith)

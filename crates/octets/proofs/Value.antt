@@ -6,17 +6,18 @@ use mathlib.Core.Bool.{Bool, true, false}
 use mathlib.Core.List.{[], ◌∷◌}
 use mathlib.Core.Path.{◌≡◌, sym, ◌∙◌}
 use lib.Dec.{ltb}
-use Rattle.octets.specs.declared.ValueWritten.{ValueWritten}
-use Rattle.octets.specs.declared.ValueWritten.TheVariants.{Written, TooLarge, Full}
+use Rattle.std.specs.Prelude.{Ok, Err}
+use Rattle.octets.specs.declared.Refusal.TheVariants.{Ended, TooLarge}
+use Rattle.octets.specs.Outcome.{Outcome, answered}
 use Rattle.octets.specs.Order.{first}
 use Rattle.octets.proofs.Part.{fewer, enough}
 
 -- what `write_value` says of the bytes that are left in a buffer
-abbrev answer : Bool → ℕ → ℕ → ValueWritten
-answer large left size = first ((large, TooLarge) ∷ (ltb left size, Full) ∷ []) (Written size)
+abbrev answer : Bool → ℕ → ℕ → Outcome
+answer large left size = answered ((large, TooLarge) ∷ (ltb left size, Ended) ∷ []) size
 
 module _ {flag large : Bool} (e : flag ≡ large) where
-  pub too_large : (other : ValueWritten) → flag ≡ true → TooLarge ≡ first ((large, TooLarge) ∷ []) other
+  pub too_large : (other : Outcome) → flag ≡ true → Err TooLarge ≡ first ((large, Err TooLarge) ∷ []) other
   too_large other t = simp (sym e ∙ t)
 
   module _ (f : flag ≡ false) where
@@ -24,12 +25,12 @@ module _ {flag large : Bool} (e : flag ≡ large) where
     plain = sym e ∙ f
 
     module _ {size n room left : ℕ} (s : n ≡ size) (r : room ≡ left) where
-      pub no_room : room < n → Full ≡ answer large left size
+      pub no_room : room < n → Err Ended ≡ answer large left size
       no_room h = simp (plain, fewer r (rw s at h))
 
       -- what is asked to store
       pub all_room : n ≤ room → (large ≡ false) × (size ≤ left)
       all_room h = (plain, rw r at (rw s at h))
 
-      pub stored : n ≤ room → Written n ≡ answer large left size
+      pub stored : n ≤ room → Ok n ≡ answer large left size
       stored h = simp (plain, enough r (rw s at h), s)

@@ -1,5 +1,6 @@
 -- The bits of a number, counted from 0 at the low end, and values listed by number.
-use Rattle.std.specs.Prelude.{ℕ, ◌-◌, ◌*◌, ◌/◌, ◌%◌, ◌^◌, Bool, true, false, cond, List, [], ◌∷◌, eqb, get_or, set}
+use Rattle.std.specs.Prelude.{ℕ, ◌-◌, ◌*◌, ◌/◌, ◌%◌, ◌^◌, Bool, cond, List, [], ◌∷◌, eqb, get_or, set}
+use Rattle.std.specs.Int.{from_bool}
 
 -- the count bits of w from bit at on, as a number
 abbrev pub bits : ℕ → ℕ → ℕ → ℕ
@@ -11,8 +12,7 @@ bit w at = eqb (bits w at 1) 1
 
 -- a flag as one bit
 abbrev pub bit_of : Bool → ℕ
-bit_of false = 0
-bit_of true = 1
+bit_of flag = from_bool flag
 
 -- w with the count bits from bit at on cleared
 abbrev pub clear : ℕ → ℕ → ℕ → ℕ

@@ -7,11 +7,12 @@ use mathlib.Core.List.{List}
 use mathlib.Core.Path.{◌≡◌}
 use borrow.Author.Tests.{ltb-false}
 use lib.ListN.{length}
-use Rattle.octets.specs.Outcome.{accepted}
 use Rattle.octets.specs.Part.{ends}
 use Rattle.octets.proofs.Cases.{cases, holds?, neither}
 use Rattle.pending.specs.declared.PendingAddress.{PendingAddress}
 use Rattle.pending.specs.Pending.{pending_in, pending_length_in, read_pending, pending_size, pending_too_large}
+use Rattle.std.specs.Prelude.{Ok}
+use Rattle.octets.specs.Outcome.{number_of}
 
 -- each count is at most seven
 pub fitting : (x : PendingAddress) → pending_too_large x ≡ false → (x.short_address_count ≤ 7) × (x.extended_address_count ≤ 7)
@@ -25,8 +26,8 @@ pub plain_size : (x : PendingAddress) → pending_too_large x ≡ false → cond
 plain_size x e = rw e
 
 -- what is read was there
-pub pending_read : (s : List ℕ) (at : ℕ) → (read_pending s at).outcome.number ≡ 0 →
-    (read_pending s at ≡ record { outcome = accepted (pending_length_in s at); pending_address = pending_in s at })
+pub pending_read : (s : List ℕ) (at : ℕ) → number_of (read_pending s at).outcome ≡ 0 →
+    (read_pending s at ≡ record { outcome = Ok (pending_length_in s at); pending_address = pending_in s at })
     × (pending_length_in s at ≤ length s - at)
 unfolding read_pending
 pending_read s at e =

@@ -1,15 +1,15 @@
 -- Pending addresses, document 01, "Beacon layout" (IEEE 802.15.4-2011, 5.2.2.1.6 and 5.2.2.1.7). Header: short count
 -- bits 0-2, extended count 4-6; short addresses first.
-use Rattle.std.specs.Prelude.{ℕ, ◌+◌, ◌*◌, ◌^◌, Bool, ◌||◌, List, [], ◌∷◌, ◌++◌, ltb, take, replicate}
+use Rattle.std.specs.Prelude.{ℕ, ◌+◌, ◌*◌, ◌^◌, Bool, ◌||◌, List, [], ◌∷◌, ◌++◌, ltb, take, replicate, Ok, Err}
 use Rattle.octets.specs.Words.{flat_map}
-use Rattle.octets.specs.declared.{ValueWritten.ValueWritten}
 use Rattle.octets.specs.{Bits.bits, Order.first, Part.ends, Value.write_value}
 use Rattle.octets.specs.Little.{number, split}
-use Rattle.octets.specs.Outcome.{accepted, refused}
 use Rattle.identifiers.specs.declared.{ShortAddress.ShortAddress, ExtendedAddress.ExtendedAddress}
-use Rattle.pending.specs.declared.{PendingAddress.PendingAddress, ShortAddresses.ShortAddresses}
-use Rattle.pending.specs.declared.{ExtendedAddresses.ExtendedAddresses, PendingRead.PendingRead}
+use Rattle.seven_places.specs.declared.{Listed.Listed}
+use Rattle.pending.specs.declared.{PendingAddress.PendingAddress, PendingRead.PendingRead}
 use Rattle.pending.specs.Addresses.{empty_short, empty_extended, shorts_in, extendeds_in, short_bytes, extended_bytes}
+use Rattle.octets.specs.Outcome.{Outcome}
+use Rattle.octets.specs.declared.Refusal.TheVariants.{Ended}
 
 -- how many bytes the addresses take behind the header
 abbrev pub addresses_length : ℕ → ℕ → ℕ
@@ -28,11 +28,11 @@ abbrev pub empty_pending : PendingAddress
 empty_pending = pending_of 0 (replicate 7 empty_short) 0 (replicate 7 empty_extended)
 
 -- its short and its extended addresses: "the count with the array"
-abbrev pub shorts_of : PendingAddress → ShortAddresses
-shorts_of x = record { count = x.short_address_count; addresses = x.short_addresses }
+abbrev pub shorts_of : PendingAddress → Listed ShortAddress
+shorts_of x = record { count = x.short_address_count; places = x.short_addresses }
 
-abbrev pub extendeds_of : PendingAddress → ExtendedAddresses
-extendeds_of x = record { count = x.extended_address_count; addresses = x.extended_addresses }
+abbrev pub extendeds_of : PendingAddress → Listed ExtendedAddress
+extendeds_of x = record { count = x.extended_address_count; places = x.extended_addresses }
 
 -- the counts in the header at a place, and all that stands there
 abbrev pub short_count_in : List ℕ → ℕ → ℕ
@@ -51,12 +51,12 @@ pending_length_in s at = 1 + addresses_length (short_count_in s at) (extended_co
 
 -- and what reading it there answers
 abbrev pub pending_refused : PendingRead
-pending_refused = record { outcome = refused 1; pending_address = empty_pending }
+pending_refused = record { outcome = Err Ended; pending_address = empty_pending }
 
 unfoldable pub read_pending : List ℕ → ℕ → PendingRead
 read_pending s at =
     first ((ends s at 1, pending_refused) ∷ (ends s at (pending_length_in s at), pending_refused) ∷ [])
-    (record { outcome = accepted (pending_length_in s at); pending_address = pending_in s at })
+    (record { outcome = Ok (pending_length_in s at); pending_address = pending_in s at })
 
 -- the header, bits 3 and 7 clear
 abbrev pub pending_header : PendingAddress → ℕ
@@ -75,5 +75,5 @@ pending_size x = 1 + addresses_length x.short_address_count x.extended_address_c
 unfoldable pub pending_too_large : PendingAddress → Bool
 pending_too_large x = ltb 7 x.short_address_count || ltb 7 x.extended_address_count
 
-unfoldable pub write_pending : PendingAddress → List ℕ → ℕ → ValueWritten
+unfoldable pub write_pending : PendingAddress → List ℕ → ℕ → Outcome
 write_pending x out at = write_value (pending_too_large x) out at (pending_size x)

@@ -4,121 +4,43 @@
 #![tactic(auto)]
 
 ghost use Rattle.std.specs.Prelude.{◌+◌, ◌-◌, ◌*◌, ◌≤◌, false, cond, ◌++◌, ◌≡◌, length, take};
-ghost use Rattle.octets.specs.Words.{flat_map};
 ghost use Rattle.octets.specs.Buffer.{laid, after};
-ghost use Rattle.octets.specs.Value.{value_outcome};
-ghost use Rattle.pending.specs.Addresses.{shorts_in, extendeds_in, short_bytes, extended_bytes};
+ghost use Rattle.pending.specs.Addresses.{addresses_in};
 ghost use Rattle.pending.specs.Pending.{addresses_length, empty_pending, shorts_of, extendeds_of};
 ghost use Rattle.pending.specs.Pending.{pending_refused, read_pending};
 ghost use Rattle.pending.specs.Pending.{pending_header, pending_bytes, pending_size, pending_too_large, write_pending};
 
-use identifiers::{ExtendedAddress, ShortAddress};
-use octets::{Outcome, ValueWritten, left, put, u8_at, u16_at, u64_at};
+use identifiers::{ExtendedAddress, Identifier, ShortAddress};
+use octets::{Outcome, Refusal, left, put, u8_at};
+use seven_places::Listed;
 
-// The n short addresses at a place, and broadcast ones behind them. Asks that they are there and at most seven.
-fn shorts_at(s: &[u8], at: usize, n: usize) -> [ShortAddress; 7]
+// The n addresses of a kind side by side at a place, and broadcast ones behind them. Asks that they are there, and at
+// most seven. (`array::from_fn` makes the code of a beacon's reader more than twice as long.)
+fn addresses_at<T: Identifier>(s: &[u8], at: usize, n: usize) -> [T; 7]
     requires n_bound { n ≤ 7 }
-    requires n_in_bounds { at + 2 * n ≤ length s.now }
-    ensures { result ≡ shorts_in s.now at n }
+    requires n_in_bounds { at + T.WIDTH * n ≤ length s.now }
+    ensures { result ≡ addresses_in T.WIDTH T.of s.now at n }
 {
-    let mut addresses = [ShortAddress::BROADCAST; 7];
-    let mut k = 0;
-    while k < n {
-        addresses[k] = ShortAddress(u16_at(s, at + 2 * k));
-        k += 1;
+    let mut addresses = [T::broadcast(); 7];
+    for k in 0..n {
+        addresses[k] = T::at(s, at + T::WIDTH * k);
     }
     addresses
-}
-
-// The n extended addresses at a place, and broadcast ones behind them. Asks that they are there and at most seven.
-fn extendeds_at(s: &[u8], at: usize, n: usize) -> [ExtendedAddress; 7]
-    requires n_bound { n ≤ 7 }
-    requires n_in_bounds { at + 8 * n ≤ length s.now }
-    ensures { result ≡ extendeds_in s.now at n }
-{
-    let mut addresses = [ExtendedAddress::BROADCAST; 7];
-    let mut k = 0;
-    while k < n {
-        addresses[k] = ExtendedAddress(u64_at(s, at + 8 * k));
-        k += 1;
-    }
-    addresses
-}
-
-// Stores the first n short addresses side by side. Asks for at most seven, and for that room.
-fn put_shorts(addresses: [ShortAddress; 7], n: usize, out: &mut [u8], at: usize)
-    requires n_bound { n ≤ 7 }
-    requires n_in_bounds { 2 * n ≤ length out.old - at }
-    ensures { out.new ≡ laid out.old at (flat_map short_bytes (take n addresses)) }
-{
-    let mut k = 0;
-    while k < n {
-        let address = addresses[k];
-        put(address.0 as u64, 2, out, at + 2 * k);
-        k += 1;
-    }
-}
-
-// Stores the first n extended addresses side by side. Asks for at most seven, and for that room.
-fn put_extendeds(addresses: [ExtendedAddress; 7], n: usize, out: &mut [u8], at: usize)
-    requires n_bound { n ≤ 7 }
-    requires n_in_bounds { 8 * n ≤ length out.old - at }
-    ensures { out.new ≡ laid out.old at (flat_map extended_bytes (take n addresses)) }
-{
-    let mut k = 0;
-    while k < n {
-        let address = addresses[k];
-        put(address.0, 8, out, at + 8 * k);
-        k += 1;
-    }
-}
-
-// Stores what follows the header: the first m short addresses, then the first n extended ones. Asks for at most seven
-// of each, and for that room.
-fn put_lists(
-    shorts: [ShortAddress; 7],
-    m: usize,
-    extendeds: [ExtendedAddress; 7],
-    n: usize,
-    out: &mut [u8],
-    at: usize,
-)
-    requires m_bound { m ≤ 7 }
-    requires n_bound { n ≤ 7 }
-    requires n_in_bounds { addresses_length m n ≤ length out.old - at }
-    ensures { out.new ≡ laid out.old at
-        (flat_map short_bytes (take m shorts) ++ flat_map extended_bytes (take n extendeds)) }
-{
-    put_shorts(shorts, m, out, at);
-    put_extendeds(extendeds, n, out, at + 2 * m);
 }
 
 // The two lists.
-#[derive(Clone, Copy)]
+#[derive(Clone, Copy, Debug, PartialEq, Eq)]
 pub struct PendingAddress {
-    // How many places of each array are in use, at most 7 in a record that can be written.
+    // How many places of each array are in use, at most 7 in a record that can be written: a larger count can be made,
+    // and is refused with 8, so no type rules it out.
     pub short_address_count: usize,
     pub short_addresses: [ShortAddress; 7],
     pub extended_address_count: usize,
     pub extended_addresses: [ExtendedAddress; 7],
 }
 
-// The short addresses: the count with the array.
-#[derive(Clone, Copy)]
-pub struct ShortAddresses {
-    pub count: usize,
-    pub addresses: [ShortAddress; 7],
-}
-
-// The extended addresses: the count with the array.
-#[derive(Clone, Copy)]
-pub struct ExtendedAddresses {
-    pub count: usize,
-    pub addresses: [ExtendedAddress; 7],
-}
-
-// What reading pending addresses answers; refused, with the empty ones.
-#[derive(Clone, Copy)]
+// What reading pending addresses answers; refused, with the empty ones, which a Result would not hand out.
+#[derive(Clone, Copy, Debug, PartialEq, Eq)]
 pub struct PendingRead {
     pub outcome: Outcome,
     pub pending_address: PendingAddress,
@@ -130,7 +52,7 @@ impl PendingRead {
     {
         let pending_address = PendingAddress::new();
         PendingRead {
-            outcome: Outcome::refused(1),
+            outcome: Err(Refusal::Ended),
             pending_address,
         }
     }
@@ -152,24 +74,24 @@ impl PendingAddress {
     }
 
     // The short addresses, as the record has them.
-    pub fn short_addresses(self) -> ShortAddresses
+    pub fn short_addresses(self) -> Listed<ShortAddress>
         ensures { result ≡ shorts_of self }
     {
-        let addresses = self.short_addresses;
-        ShortAddresses {
+        let places = self.short_addresses;
+        Listed {
             count: self.short_address_count,
-            addresses,
+            places,
         }
     }
 
     // The extended addresses, as the record has them.
-    pub fn extended_addresses(self) -> ExtendedAddresses
+    pub fn extended_addresses(self) -> Listed<ExtendedAddress>
         ensures { result ≡ extendeds_of self }
     {
-        let addresses = self.extended_addresses;
-        ExtendedAddresses {
+        let places = self.extended_addresses;
+        Listed {
             count: self.extended_address_count,
-            addresses,
+            places,
         }
     }
 
@@ -187,10 +109,10 @@ impl PendingAddress {
         if left(s, at) < length {
             return PendingRead::refused();
         }
-        let short_addresses = shorts_at(s, at + 1, shorts);
-        let extended_addresses = extendeds_at(s, at + 1 + 2 * shorts, extendeds);
+        let short_addresses = addresses_at(s, at + 1, shorts);
+        let extended_addresses = addresses_at(s, at + 1 + 2 * shorts, extendeds);
         PendingRead {
-            outcome: Outcome::accepted(length),
+            outcome: Ok(length),
             pending_address: PendingAddress {
                 short_address_count: shorts,
                 short_addresses,
@@ -204,11 +126,7 @@ impl PendingAddress {
     pub fn too_large(self) -> bool
         ensures { result ≡ pending_too_large self }
     {
-        if 7 < self.short_address_count {
-            true
-        } else {
-            7 < self.extended_address_count
-        }
+        7 < self.short_address_count || 7 < self.extended_address_count
     }
 
     // How many bytes they are written in, 0 where a count is above 7.
@@ -230,39 +148,31 @@ impl PendingAddress {
         self.short_address_count as u8 + 16 * (self.extended_address_count as u8)
     }
 
-    // Stores them. Asks that no count is too large, and for that room.
+    // Stores them. Asks that no count is too large.
     fn put(self, out: &mut [u8], at: usize)
-        requires self_value { pending_too_large self ≡ false }
-        requires self_in_bounds { pending_size self ≤ length out.old - at }
+        requires { pending_too_large self ≡ false }
         ensures { out.new ≡ laid out.old at (pending_bytes self) }
     {
-        let shorts = self.short_addresses;
-        let extendeds = self.extended_addresses;
         let header = self.header();
         let next = put(header as u64, 1, out, at);
-        put_lists(
-            shorts,
-            self.short_address_count,
-            extendeds,
-            self.extended_address_count,
-            out,
-            next,
-        );
+        let next = self.short_addresses().put(out, next);
+        self.extended_addresses().put(out, next);
     }
 
     // Writes them at a place; refused, out keeps every byte.
-    pub fn write(self, out: &mut [u8], at: usize) -> ValueWritten
+    #[tactic(auto, unfolding(crate::specs::Pending::write_pending))]
+    pub fn write(self, out: &mut [u8], at: usize) -> Outcome
         ensures value { result ≡ write_pending self out.old at }
-        ensures out_after { out.new ≡ after (value_outcome result) out.old at (pending_bytes self) }
+        ensures out_after { out.new ≡ after result out.old at (pending_bytes self) }
     {
         if self.too_large() {
-            return ValueWritten::TooLarge;
+            return Err(Refusal::TooLarge);
         }
         let n = self.size();
         if left(out, at) < n {
-            return ValueWritten::Full;
+            return Err(Refusal::Ended);
         }
         self.put(out, at);
-        ValueWritten::Written(n)
+        Ok(n)
     }
 }

@@ -5,12 +5,12 @@ use Prim.Native.Nat.{ℕ, suc, ◌+◌, ◌-◌, ◌≤◌, ◌<◌, min, max}
 use native.Mathlib.Numerals.{add-one}
 use native.Mathlib.Omega.{arith}
 use mathlib.Core.Bool.{true, false, cond}
-use mathlib.Core.List.{List, [], ◌∷◌, ◌++◌, append_assoc, append-nil, map}
+use mathlib.Core.List.{List, [], ◌∷◌, ◌++◌, append_assoc, append-nil}
 use mathlib.Core.Path.{◌≡◌, refl, sym, ap, ◌∙◌}
 use borrow.Author.Tests.{ltb-true, ltb-false, leb-true, leb-false, lt-ltb, le-ltb}
 use lib.Dec.{ltb, leb}
-use lib.ListN.{length, set, take, drop, length-append, length-map, length-set}
-use lib.Seq.{length-take-le, take-suc-set, take_at, take-append-add}
+use lib.ListN.{length, get_or, set, take, drop, length-append, length-set}
+use lib.Seq.{drop-cons, length-take-le, take-suc-set, take_at, take-append-add}
 use Rattle.octets.specs.Buffer.{laid}
 use Rattle.octets.proofs.Buffer.{laid_none, laid_cons, laid_parts}
 use Rattle.octets.proofs.Cases.{cases, holds?, both}
@@ -21,10 +21,6 @@ use Rattle.pieces.specs.Needed.{needed}
 use Rattle.pieces.specs.Reader.{waits, awaited_with, says, grown, taken}
 use Rattle.pieces.specs.Steps.{grown_with, gathered, spoken}
 use Rattle.pieces.proofs.Prefix.{needed_bounds, needed_settled, needed_open, needed_grows}
-
--- an array that a record owns has all its places
-pub mapped : {A B : Type 0} (f : A → B) (l : List A) (n : ℕ) → length (map f l) ≡ n → length l ≡ n
-mapped f l n e = sym (length-map l f) ∙ e
 
 -- a reader with k bytes seen of an array b, which awaits n
 abbrev pub reader : List ℕ → ℕ → ℕ → HeaderReader
@@ -118,6 +114,14 @@ onward r p = cond (ltb r.count r.awaited) (gathered r p) r
 pub onward_wants : (r : HeaderReader) (p : List ℕ) → r.count < r.awaited → onward r p ≡ gathered r p
 onward_wants r p h = let wants : ltb r.count r.awaited ≡ true = lt-ltb _ _ h in simp wants
 
+-- what is left of a piece from a place on, its first byte apart
+pub onward_from : (r : HeaderReader) (p : List ℕ) (i : ℕ) → i < length p → r.count < r.awaited →
+    gathered r (get_or p i 0 ∷ drop (i + 1) p) ≡ onward r (drop i p)
+onward_from r p i inside wants =
+    ap (λ (k : ℕ). gathered r (get_or p i 0 ∷ drop k p)) (add-one i)
+    ∙ ap (gathered r) (sym (drop-cons p i 0 inside))
+    ∙ sym (onward_wants r (drop i p) wants)
+
 -- before the last byte awaited
 pub onward_before : (b : List ℕ) (k x : ℕ) (p : List ℕ) (n : ℕ) → k < length b → k + 1 < n →
     onward (reader (set b k x) (k + 1) n) p ≡ gathered (reader b k n) (x ∷ p)
@@ -148,13 +152,10 @@ onward_last b k x p h =
     ap (λ (n : ℕ). onward (reader c (k + 1) n) p) most
     ∙ simp waits (gathered_next b k x p (k + 1) (needed s) h (omega arith) (awaited_on s p (k + 1) long more)))
 
--- behind the last byte of a piece, and behind the last byte needed
+-- behind the last byte of a piece
 pub onward_end : (b : List ℕ) (k n : ℕ) → k ≤ length b → onward (reader b k n) [] ≡ reader b k n
 onward_end b k n h =
     cases (holds? (ltb k n)) (λ t. simp t (gathered_none b k n h (ltb-true _ _ t))) (λ f. simp f)
-
-pub onward_done : (b : List ℕ) (k n : ℕ) (p : List ℕ) → n ≤ k → onward (reader b k n) p ≡ reader b k n
-onward_done b k n p h = let done : ltb k n ≡ false = le-ltb _ _ h in simp done
 
 -- the bytes that a grown reader has seen: those of before, and of the piece
 pub grown_seen : (b : List ℕ) (k : ℕ) (p : List ℕ) (m : ℕ) → k ≤ m → m ≤ length b → m ≤ k + length p →

@@ -4,50 +4,58 @@
 -- Assumes nothing.
 use Prim.Native.Nat.{ℕ, ◌+◌, ◌≤◌, ◌<◌}
 use native.Mathlib.Omega.{arith}
-use mathlib.Core.Bool.{Bool, true, false, true≢false, cond, not}
+use mathlib.Core.Bool.{Bool, true, false, true≢false, cond, ◌||◌}
 use mathlib.Core.List.{List, [], ◌∷◌, ◌++◌}
 use mathlib.Core.Path.{◌≡◌, refl, sym, ap, ◌∙◌}
 use borrow.Author.Tests.{ltb-true, ltb-false, leb-true, leb-false, eqb-true, le-ltb, lt-ltb, le-leb, lt-leb}
 use lib.Dec.{ltb, leb, eqb}
 use lib.ListN.{length, length-append}
-use Rattle.octets.specs.declared.Outcome.{Outcome}
-use Rattle.octets.specs.{Bits.bits, Bits.bit, Little.number, Order.first, Outcome.accepted, Outcome.refused}
+use Rattle.std.specs.Prelude.{Ok, Err}
+use Rattle.octets.specs.declared.Refusal.{Refusal}
+use Rattle.octets.specs.declared.Refusal.TheVariants.{Ended, Version, FrameType, AddressMode, NoDestination}
+use Rattle.octets.specs.{Bits.bits, Bits.bit, Little.number, Order.first}
+use Rattle.octets.specs.Outcome.{Outcome, refusal_number, number_of, answered}
 use Rattle.octets.proofs.Cases.{cases, holds?, both}
 use Rattle.octets.proofs.Little.{number_more}
 use Rattle.header_bytes.specs.Layout.{pan_size, address_size, destination_end, source_end, header_end}
-use Rattle.header_bytes.specs.Reading.{unshared, answered, measured}
+use Rattle.header_bytes.specs.Reading.{unshared, measured}
 use Rattle.header_bytes.proofs.Sizes.{source_end_lem, header_end_lem, control_inside}
 use Rattle.pieces.specs.Needed.{control_unseen, needed}
 
--- The refusals of a frame control, by its five tests: version, type, the two address modes and compression; 0 where none holds.
-abbrev faults : Bool → Bool → Bool → Bool → Bool → ℕ
-faults version type destination source compression =
-    first ((version, 2) ∷ (type, 3) ∷ (destination, 4) ∷ (source, 4) ∷ (compression, 5) ∷ []) 0
+-- That a frame control w refuses, by its five tests: version, type, the two address modes and compression; and the refusal of the first
+-- that holds, the last one's where none does.
+abbrev pub faulty : ℕ → Bool
+faulty w = eqb (bits w 12 2) 3 || (eqb (bits w 0 3) 4 || (eqb (bits w 10 2) 1 || (eqb (bits w 14 2) 1 || unshared w)))
 
-abbrev pub fault : ℕ → ℕ
-fault w = faults (eqb (bits w 12 2) 3) (eqb (bits w 0 3) 4) (eqb (bits w 10 2) 1) (eqb (bits w 14 2) 1) (unshared w)
+abbrev faults : Bool → Bool → Bool → Bool → Refusal
+faults version type destination source =
+    first ((version, Version) ∷ (type, FrameType) ∷ (destination, AddressMode) ∷ (source, AddressMode) ∷ []) NoDestination
 
--- 2 to 5, or 0
-faults_two : (v t d s c : Bool) → ltb 1 (faults v t d s c) ≡ not (eqb (faults v t d s c) 0)
-faults_two true t d s c = refl
-faults_two false true d s c = refl
-faults_two false false true s c = refl
-faults_two false false false true c = refl
-faults_two false false false false true = refl
-faults_two false false false false false = refl
+abbrev pub fault : ℕ → Refusal
+fault w = faults (eqb (bits w 12 2) 3) (eqb (bits w 0 3) 4) (eqb (bits w 10 2) 1) (eqb (bits w 14 2) 1)
 
-pub fault_two : (w : ℕ) → ltb 1 (fault w) ≡ not (eqb (fault w) 0)
-fault_two w = faults_two (eqb (bits w 12 2) 3) (eqb (bits w 0 3) 4) (eqb (bits w 10 2) 1) (eqb (bits w 14 2) 1) (unshared w)
+-- 2 to 5
+faults_two : (v t d s : Bool) → 1 < refusal_number (faults v t d s)
+faults_two true t d s = omega arith
+faults_two false true d s = omega arith
+faults_two false false true s = omega arith
+faults_two false false false true = omega arith
+faults_two false false false false = omega arith
+
+pub fault_two : (w : ℕ) → 1 < refusal_number (fault w)
+fault_two w = faults_two (eqb (bits w 12 2) 3) (eqb (bits w 0 3) 4) (eqb (bits w 10 2) 1) (eqb (bits w 14 2) 1)
 
 -- what measuring says where three bytes are there: the frame control's refusal, else 1 or the length n, by whether the header is cut short
-abbrev pub measured_by : ℕ → Bool → ℕ → Outcome
-measured_by refusal short n = cond (eqb refusal 0) (cond short (refused 1) (accepted n)) (refused refusal)
+abbrev pub measured_by : Bool → Refusal → Bool → ℕ → Outcome
+measured_by refused refusal short n = cond refused (Err refusal) (cond short (Err Ended) (Ok n))
 
 -- The tests in their order say so: "1 destination" does not hold where 5 does, and it and "1 source" hold only where the last one does.
 in_order : (v t d s c toShort fromShort short : Bool) (n : ℕ) → (c ≡ true → toShort ≡ false) →
     (short ≡ false → (toShort ≡ false) × (fromShort ≡ false)) →
-    answered ((v, 2) ∷ (t, 3) ∷ (d, 4) ∷ (s, 4) ∷ (toShort, 1) ∷ (c, 5) ∷ (fromShort, 1) ∷ (short, 1) ∷ []) n
-    ≡ measured_by (faults v t d s c) short n
+    answered
+    ((v, Version) ∷ (t, FrameType) ∷ (d, AddressMode) ∷ (s, AddressMode) ∷ (toShort, Ended) ∷ (c, NoDestination) ∷ (fromShort, Ended) ∷
+    (short, Ended) ∷ []) n
+    ≡ measured_by (v || (t || (d || (s || c)))) (faults v t d s) short n
 in_order true t d s c a b z n f g = refl
 in_order false true d s c a b z n f g = refl
 in_order false false true s c a b z n f g = refl
@@ -67,7 +75,8 @@ unshared_end w e =
     ap (λ (mode : ℕ). 3 + (pan_size (ltb 1 mode) + address_size mode)) (eqb-true (bits w 10 2) 0 (both (bit w 6) (eqb (bits w 10 2) 0) e).1)
 
 pub measured_by_lem : (s : List ℕ) → 3 ≤ length s →
-    measured s ≡ measured_by (fault (number s 0 2)) (ltb (length s) (header_end s (number s 0 2))) (header_end s (number s 0 2))
+    measured s
+    ≡ measured_by (faulty (number s 0 2)) (fault (number s 0 2)) (ltb (length s) (header_end s (number s 0 2))) (header_end s (number s 0 2))
 unfolding measured
 measured_by_lem s three =
     let w = number s 0 2 in
@@ -90,23 +99,21 @@ abbrev pub needed_rest : List ℕ → ℕ → ℕ
 needed_rest s w = cond (control_unseen (length s) w) (source_end w + 1) (header_end s w)
 
 -- measuring says more than 1 exactly where the frame control refuses
-measured_two : (refusal : ℕ) (short : Bool) (n : ℕ) → ltb 1 refusal ≡ not (eqb refusal 0) →
-    ltb 1 (measured_by refusal short n).number ≡ not (eqb refusal 0)
-measured_two refusal short n e =
-    cases (holds? (eqb refusal 0))
-    (λ none. simp none (cases (holds? short) (λ t. simp t) (λ f. simp f)))
-    (λ some. simp some (e ∙ ap not some))
+measured_two : (refused short : Bool) (refusal : Refusal) (n : ℕ) → 1 < refusal_number refusal →
+    ltb 1 (number_of (measured_by refused refusal short n)) ≡ refused
+measured_two true short refusal n h = lt-ltb 1 (refusal_number refusal) h
+measured_two false true refusal n h = refl
+measured_two false false refusal n h = refl
 
-pub needed_by_lem : (s : List ℕ) → 3 ≤ length s →
-    needed s ≡ cond (eqb (fault (number s 0 2)) 0) (needed_rest s (number s 0 2)) 3
+pub needed_by_lem : (s : List ℕ) → 3 ≤ length s → needed s ≡ cond (faulty (number s 0 2)) 3 (needed_rest s (number s 0 2))
 unfolding needed
 needed_by_lem s three =
     let w = number s 0 2 in
     let there : ltb (length s) 3 ≡ false = le-ltb (length s) 3 three in
-    let refused : ltb 1 (measured s).number ≡ not (eqb (fault w) 0) =
-    ap (λ (o : Outcome). ltb 1 o.number) (measured_by_lem s three)
-    ∙ measured_two (fault w) (ltb (length s) (header_end s w)) (header_end s w) (fault_two w) in
-    cases (holds? (eqb (fault w) 0)) (λ none. simp (there, refused, none)) (λ some. simp (there, refused, some))
+    let refused : ltb 1 (number_of (measured s)) ≡ faulty w =
+    ap (λ (o : Outcome). ltb 1 (number_of o)) (measured_by_lem s three)
+    ∙ measured_two (faulty w) (ltb (length s) (header_end s w)) (fault w) (header_end s w) (fault_two w) in
+    cases (holds? (faulty w)) (λ some. simp (there, refused, some)) (λ none. simp (there, refused, none))
 
 -- at least three, at most the longest header
 rest_bounds : (s : List ℕ) (w : ℕ) → (3 ≤ needed_rest s w) × (needed_rest s w ≤ 37)
@@ -121,7 +128,7 @@ needed_bounds s =
     cases (holds? (ltb (length s) 3))
     (λ short. rw (needed_short s (ltb-true (length s) 3 short)) (omega arith, omega arith))
     (λ there. rw (needed_by_lem s (ltb-false (length s) 3 there))
-    (cases (holds? (eqb (fault w) 0)) (λ none. simp none (rest_bounds s w)) (λ some. simp some (omega arith, omega arith))))
+    (cases (holds? (faulty w)) (λ some. simp some (omega arith, omega arith)) (λ none. simp none (rest_bounds s w))))
 
 longer : (s t : List ℕ) → length s ≤ length (s ++ t)
 longer s t = omega (arith, length-append s t)
@@ -174,9 +181,9 @@ module _ (s t : List ℕ) (w : ℕ) where
       (λ seen. omega (arith, seen_more seen))
 
 -- Bytes t behind s with its first three: what holds of three and of the rest holds of the numbers needed, since s fixes the frame control.
-either : (b : Bool) (P : ℕ → ℕ → Type 0) (n m : ℕ) → P 3 3 → P n m → P (cond b n 3) (cond b m 3)
-either true P n m three rest = rest
-either false P n m three rest = three
+either : (b : Bool) (P : ℕ → ℕ → Type 0) (n m : ℕ) → P 3 3 → P n m → P (cond b 3 n) (cond b 3 m)
+either true P n m three rest = three
+either false P n m three rest = rest
 
 needed_more : (P : ℕ → ℕ → Type 0) (s t : List ℕ) → 3 ≤ length s → P 3 3 →
     P (needed_rest s (number s 0 2)) (needed_rest (s ++ t) (number s 0 2)) →
@@ -185,7 +192,7 @@ needed_more P s t there three rest =
     let w = number s 0 2 in
     let same : number (s ++ t) 0 2 ≡ w = number_more s t 0 2 (omega arith) in
     rw (needed_by_lem s there, needed_by_lem (s ++ t) (omega (arith, longer s t)), same)
-    (either (eqb (fault w) 0) P (needed_rest s w) (needed_rest (s ++ t) w) three rest)
+    (either (faulty w) P (needed_rest s w) (needed_rest (s ++ t) w) three rest)
 
 -- where the bytes needed are there, bytes behind alter nothing
 pub needed_settled : (s t : List ℕ) → needed s ≤ length s → needed (s ++ t) ≡ needed s

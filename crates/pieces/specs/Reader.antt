@@ -1,12 +1,11 @@
 -- The reader that takes a header in pieces (document 02, request 1): what it hands back to a piece and to the end, by
 -- the bytes that it has seen and those of the piece joined to them.
-use Rattle.std.specs.Prelude.{max}
-use Rattle.std.specs.Prelude.{ℕ, ◌-◌, min, Bool, cond, ◌&&◌, List, ◌++◌, ltb, leb, length, take, replicate}
+use Rattle.std.specs.Prelude.{ℕ, ◌-◌, min, max, Bool, cond, ◌&&◌, List, ◌++◌, ltb, leb, length, take, replicate, Err}
 use Rattle.octets.specs.{Buffer.laid}
-use Rattle.header.specs.{declared.HeaderRefusal.TheVariants.Ended, Read.read_header}
-use Rattle.pieces.specs.declared.{HeaderReader.HeaderReader, PieceAnswer.PieceAnswer, PieceTaken.PieceTaken}
-use Rattle.pieces.specs.declared.PieceAnswer.TheVariants.{More, Refused, Over}
-use Rattle.pieces.specs.{Needed.needed, Answer.told}
+use Rattle.octets.specs.declared.Refusal.TheVariants.{Ended}
+use Rattle.header.specs.{Read.read_header}
+use Rattle.pieces.specs.declared.{HeaderReader.HeaderReader, PieceTaken.PieceTaken}
+use Rattle.pieces.specs.{Needed.needed, Answer.PieceAnswer, Answer.more, Answer.nine, Answer.told}
 
 -- the longest header
 abbrev pub header_most : ℕ
@@ -31,7 +30,7 @@ awaited_with n j = cond (ltb (length j) n) n (max n (needed j))
 
 -- what it says of the bytes j where it awaits n: more, or what the whole reader says of these n
 abbrev pub says : ℕ → List ℕ → PieceAnswer
-says n j = cond (ltb (length j) n) More (told (read_header (take n j)))
+says n j = cond (ltb (length j) n) more (told (read_header (take n j)))
 
 -- with m bytes seen, the last of them from a piece p, and n awaited
 abbrev pub grown : HeaderReader → List ℕ → ℕ → ℕ → HeaderReader
@@ -44,14 +43,14 @@ taken_with r p j n =
 
 -- 9, the state kept, no byte used
 abbrev pub over : HeaderReader → PieceTaken
-over r = record { reader = r; answer = Over; used = 0 }
+over r = record { reader = r; answer = nine; used = 0 }
 
 -- 1, nothing more awaited
 abbrev pub cut_short : HeaderReader → PieceTaken
 cut_short r =
     record {
       reader = record { bytes = r.bytes; count = r.count; awaited = r.count };
-      answer = Refused Ended;
+      answer = Err Ended;
       used = 0;
     }
 

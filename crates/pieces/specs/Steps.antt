@@ -1,9 +1,8 @@
 -- What the reader's own functions tell on the way to an answer: no part of its definition.
 use Rattle.std.specs.Prelude.{ℕ, min, cond, List, ◌++◌, ltb, length}
 use Rattle.header.specs.{Read.read_header}
-use Rattle.pieces.specs.declared.{HeaderReader.HeaderReader, PieceAnswer.PieceAnswer}
-use Rattle.pieces.specs.declared.PieceAnswer.TheVariants.{More}
-use Rattle.pieces.specs.{Answer.told, Reader.seen, Reader.awaited_with, Reader.grown}
+use Rattle.pieces.specs.declared.{HeaderReader.HeaderReader}
+use Rattle.pieces.specs.{Answer.PieceAnswer, Answer.more, Answer.told, Reader.seen, Reader.awaited_with, Reader.grown}
 
 -- the reader that a piece leads to
 abbrev pub grown_with : HeaderReader → List ℕ → List ℕ → ℕ → HeaderReader
@@ -14,4 +13,4 @@ gathered r p = grown_with r p (seen r ++ p) (awaited_with r.awaited (seen r ++ p
 
 -- what it says of the bytes that it has seen
 abbrev pub spoken : HeaderReader → PieceAnswer
-spoken r = cond (ltb r.count r.awaited) More (told (read_header (seen r)))
+spoken r = cond (ltb r.count r.awaited) more (told (read_header (seen r)))

@@ -2,80 +2,52 @@
 // state is a value: each call hands back the next one, the answer, and how many bytes of the piece were used.
 #![tactic(auto)]
 
-ghost use Rattle.std.specs.Prelude.{max};
-ghost use Rattle.std.specs.Prelude.{◌≤◌, true, ◌≡◌, length, take};
+ghost use Rattle.std.specs.Prelude.{max, ◌≤◌, true, ◌≡◌, length, take};
 ghost use Rattle.pieces.specs.Needed.{control_unseen, needed};
 ghost use Rattle.pieces.specs.Answer.{told, piece_outcome};
 ghost use Rattle.pieces.specs.Reader.{header_most, new_reader, waits, over, cut_short, taken, ended};
 ghost use Rattle.pieces.specs.Steps.{gathered, spoken};
 
-use header::{Header, HeaderRead, HeaderRefusal};
+use header::Header;
 use header_bytes::{measure_header, source_end};
-use octets::{Outcome, u16_at};
+use octets::{Outcome, Refusal, u16_at};
 
 // The longest header.
 pub const HEADER_MOST: usize = 37;
 
 // The bytes seen so far, their count, and how many it awaits: it looks at them once so many are there. It waits as long
-// as it awaits more than it has.
-#[derive(Clone, Copy)]
+// as it awaits more than it has. An array with a count beside it, since no heap is used.
+#[derive(Clone, Copy, Debug, PartialEq, Eq)]
 pub struct HeaderReader {
     bytes: [u8; HEADER_MOST],
     count: usize,
     awaited: usize,
 }
 
-// What is said of a piece or of the end: more bytes are needed, the header with its length, the whole reader's refusal,
-// or 9 where the answer was given before.
-#[derive(Clone, Copy)]
-pub enum PieceAnswer {
-    More,
-    Done(Header, usize),
-    Refused(HeaderRefusal),
-    Over,
-}
+// What is said of a piece or of the end: nothing yet, where more bytes are needed, or the header with its length; and a
+// refusal is the whole reader's, or `Over` where the answer was given before.
+pub type PieceAnswer = Result<Option<(Header, usize)>, Refusal>;
 
 // What a call hands back: the reader for the next call, the answer, and how many bytes of the piece were used.
-#[derive(Clone, Copy)]
+#[derive(Clone, Copy, Debug, PartialEq, Eq)]
 pub struct PieceTaken {
     pub reader: HeaderReader,
     pub answer: PieceAnswer,
     pub used: usize,
 }
 
-impl PieceAnswer {
-    // Its number and length: 0 and 0 for more.
-    pub fn outcome(self) -> Outcome
-        ensures { result ≡ piece_outcome self }
-    {
-        match self {
-            PieceAnswer::More => Outcome::accepted(0),
-            PieceAnswer::Done(_, n) => Outcome::accepted(n),
-            PieceAnswer::Refused(refusal) => Outcome::refused(refusal.number()),
-            PieceAnswer::Over => Outcome::refused(9),
-        }
-    }
-
-    // What the whole reader says, as an answer to a piece.
-    fn of(read: HeaderRead) -> Self
-        ensures { result ≡ told read }
-    {
-        match read {
-            HeaderRead::Read(header, n) => PieceAnswer::Done(header, n),
-            HeaderRead::Refused(refusal) => PieceAnswer::Refused(refusal),
-        }
-    }
+// The length that an answer tells, 0 for more, or its refusal.
+pub fn piece_outcome(answer: PieceAnswer) -> Outcome
+    ensures { result ≡ piece_outcome answer }
+{
+    answer.map(|done| done.map_or(0, |(_, length)| length))
 }
 
 // A security control is announced by a frame control, and is not among so many bytes.
 fn control_unseen(n: usize, w: usize) -> bool
     ensures { result ≡ control_unseen n w }
 {
-    if w / 8 % 2 == 1 {
-        n <= source_end(w)
-    } else {
-        false
-    }
+    w / 8 % 2 == 1 && n <= source_end(w)
 }
 
 // How many bytes are needed where the first count of an array are there, and no fewer than these. Asks for an array
@@ -89,18 +61,15 @@ fn awaited_with(bytes: &[u8], count: usize) -> usize
     if count < 3 {
         return 3;
     }
-    let whole = measure_header(bytes);
-    if whole.number != 0 {
+    let Ok(end) = measure_header(bytes) else {
         return count;
-    }
+    };
     let w = u16_at(bytes, 0) as usize;
     if control_unseen(count, w) {
-        return source_end(w) + 1;
+        source_end(w) + 1
+    } else {
+        count.max(end)
     }
-    if count < whole.length {
-        return whole.length;
-    }
-    count
 }
 
 impl HeaderReader {
@@ -120,11 +89,7 @@ impl HeaderReader {
     fn waits(self) -> bool
         ensures { result ≡ waits self }
     {
-        if self.count < self.awaited {
-            self.awaited <= HEADER_MOST
-        } else {
-            false
-        }
+        self.count < self.awaited && self.awaited <= HEADER_MOST
     }
 
     // The answer was given before.
@@ -133,7 +98,7 @@ impl HeaderReader {
     {
         PieceTaken {
             reader: self,
-            answer: PieceAnswer::Over,
+            answer: Err(Refusal::Over),
             used: 0,
         }
     }
@@ -147,34 +112,28 @@ impl HeaderReader {
                 awaited: self.count,
                 ..self
             },
-            answer: PieceAnswer::Refused(HeaderRefusal::Ended),
+            answer: Err(Refusal::Ended),
             used: 0,
         }
     }
 
     // Takes bytes of a piece up to the last one needed. Asks that it waits.
-    fn gather(self, piece: &[u8]) -> Self
+    fn gather(mut self, piece: &[u8]) -> Self
         requires { waits self ≡ true }
         ensures value { result ≡ gathered self piece.now }
         ensures count_le_header_most { result.count ≤ header_most }
     {
-        let mut bytes = self.bytes;
-        let mut count = self.count;
-        let mut awaited = self.awaited;
-        let mut at = 0;
-        while count < awaited && at < piece.len() {
-            bytes[count] = piece[at];
-            count += 1;
-            at += 1;
-            if count == awaited {
-                awaited = awaited_with(&bytes, count);
+        for &byte in piece {
+            if self.count >= self.awaited {
+                break;
+            }
+            self.bytes[self.count] = byte;
+            self.count += 1;
+            if self.count == self.awaited {
+                self.awaited = awaited_with(&self.bytes, self.count);
             }
         }
-        HeaderReader {
-            bytes,
-            count,
-            awaited,
-        }
+        self
     }
 
     // What is said of the bytes seen. Asks that they are there.
@@ -183,36 +142,37 @@ impl HeaderReader {
         ensures { result ≡ spoken self }
     {
         if self.count < self.awaited {
-            return PieceAnswer::More;
+            return Ok(None);
         }
-        let bytes = self.bytes;
-        let count = self.count;
-        PieceAnswer::of(Header::read(&bytes[..count]))
+        Header::read(&self.bytes[..self.count]).map(Some)
     }
 
     // Takes a piece, perhaps empty.
+    #[tactic(auto, unfolding(crate::specs::Reader::taken))]
     pub fn take(self, piece: &[u8]) -> PieceTaken
         ensures { result ≡ taken self piece.now }
-    {
-        if self.waits() {
-            let next = self.gather(piece);
-            let used = next.count - self.count;
-            return PieceTaken {
-                reader: next,
-                answer: next.say(),
-                used,
-            };
-        }
-        self.over()
-    }
-
-    // No more is coming.
-    pub fn end(self) -> PieceTaken
-        ensures { result ≡ ended self }
     {
         if !self.waits() {
             return self.over();
         }
-        self.cut_short()
+        let next = self.gather(piece);
+        let used = next.count - self.count;
+        PieceTaken {
+            reader: next,
+            answer: next.say(),
+            used,
+        }
+    }
+
+    // No more is coming.
+    #[tactic(auto, unfolding(crate::specs::Reader::ended))]
+    pub fn end(self) -> PieceTaken
+        ensures { result ≡ ended self }
+    {
+        if self.waits() {
+            self.cut_short()
+        } else {
+            self.over()
+        }
     }
 }

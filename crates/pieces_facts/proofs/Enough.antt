@@ -3,31 +3,33 @@
 -- Assumes nothing.
 use Prim.Native.Nat.{ℕ, ◌+◌, ◌≤◌, ◌<◌}
 use native.Mathlib.Omega.{arith}
-use mathlib.Core.Bool.{true, false, not}
+use mathlib.Core.Bool.{true, false}
 use mathlib.Core.List.{List, ◌++◌}
 use mathlib.Core.Logic.{◌⊎◌, inl, inr}
 use mathlib.Core.Path.{◌≡◌, refl, sym, ap, ◌∙◌}
-use borrow.Author.Tests.{ltb-true, ltb-false, leb-true, eqb-false, lt-ltb, le-ltb}
-use lib.Dec.{ltb, leb, eqb}
+use borrow.Author.Tests.{ltb-true, ltb-false, leb-true, lt-ltb, le-ltb}
+use lib.Dec.{ltb, leb}
 use lib.ListN.{length, take, drop, replicate, length-append, length-take, take-append-drop}
 use lib.Seq.{length-take-le}
+use Rattle.std.specs.Prelude.{Result, Ok, Err}
+use Rattle.octets.specs.declared.Refusal.{Refusal}
+use Rattle.octets.specs.declared.Refusal.TheVariants.{Ended}
 use Rattle.octets.specs.{Bits.bit, Little.number}
+use Rattle.octets.specs.Outcome.{refusal_number, number_of}
+use Rattle.octets.proofs.Accepted.{never, one_value}
 use Rattle.octets.proofs.Cases.{cases, holds?, both}
 use Rattle.octets.proofs.Little.{number_more}
 use Rattle.header_bytes.specs.Layout.{source_end, header_end}
 use Rattle.header_bytes.specs.Reading.{measured}
+use Rattle.header_bytes.proofs.Accepted.{measured_most}
 use Rattle.header_bytes.proofs.Passed.{measured_passed}
 use Rattle.header_bytes.proofs.Sizes.{control_inside}
 use Rattle.header.specs.declared.Header.{Header}
-use Rattle.header.specs.declared.HeaderRead.{HeaderRead}
-use Rattle.header.specs.declared.HeaderRefusal.{HeaderRefusal}
-use Rattle.header.specs.declared.HeaderRead.TheVariants.{Read, Refused}
-use Rattle.header.specs.declared.HeaderRefusal.TheVariants.{Ended}
-use Rattle.header.specs.Read.{header_in, read_number, refusal_of, read_header, read_outcome}
+use Rattle.header.specs.Read.{header_in, read_header, read_outcome}
 use Rattle.header.proofs.Apart.{read_measured, together, refused_read}
 use Rattle.header_facts.proofs.Trip.{unread}
 use Rattle.pieces.specs.Needed.{control_unseen, needed}
-use Rattle.pieces.proofs.Prefix.{fault, fault_two, measured_by_lem, needed_rest, needed_by_lem}
+use Rattle.pieces.proofs.Prefix.{faulty, fault, fault_two, measured_by_lem, needed_rest, needed_by_lem}
 use Rattle.pieces.proofs.Prefix.{needed_bounds, needed_settled, needed_grows}
 use Rattle.pieces_facts.specs.Enough.{Enough}
 
@@ -54,93 +56,97 @@ rest_whole s w h =
     absurd (omega arith))
     (λ seen. simp seen)
 
+outcome_number : (r : Result (Header × ℕ) Refusal) → number_of (read_outcome r) ≡ number_of r
+outcome_number (Ok p) = refl
+outcome_number (Err r) = refl
+
 module _ (s : List ℕ) where
   abbrev w : ℕ
   w = number s 0 2
 
-  -- the number where the frame control refuses, and where it does not
-  needed_refused : 3 ≤ length s → eqb (fault w) 0 ≡ false → needed s ≡ 3
+  -- how many where the frame control refuses, and where it does not
+  needed_refused : 3 ≤ length s → faulty w ≡ true → needed s ≡ 3
   needed_refused there some = rw (needed_by_lem s there, some)
 
-  needed_passed : 3 ≤ length s → eqb (fault w) 0 ≡ true → needed s ≡ needed_rest s w
+  needed_passed : 3 ≤ length s → faulty w ≡ false → needed s ≡ needed_rest s w
   needed_passed there none = rw (needed_by_lem s there, none)
 
   -- what measuring says: 1 where one is missing, else the refusal of the frame control, or the length
-  number_below : ltb (length s) 3 ≡ true → (measured s).number ≡ 1
+  measured_below : ltb (length s) 3 ≡ true → measured s ≡ Err Ended
   unfolding measured
-  number_below short = simp short
+  measured_below short = simp short
 
-  number_short : length s < needed s → (measured s).number ≡ 1
-  number_short h =
-      cases (holds? (ltb (length s) 3)) number_below
+  measured_short : length s < needed s → measured s ≡ Err Ended
+  measured_short h =
+      cases (holds? (ltb (length s) 3)) measured_below
       (λ three.
       let there = ltb-false (length s) 3 three in
-      cases (holds? (eqb (fault w) 0))
+      cases (holds? (faulty w))
+      (λ some. absurd (omega (arith, needed_refused there some)))
       (λ none.
       let cut : ltb (length s) (header_end s w) ≡ true =
       lt-ltb (length s) (header_end s w) (omega (arith, needed_passed there none, rest_most s w)) in
-      rw (measured_by_lem s there, none, cut))
-      (λ some. absurd (omega (arith, needed_refused there some))))
+      measured_by_lem s there ∙ simp (none, cut)))
 
-  number_refused : 3 ≤ length s → eqb (fault w) 0 ≡ false → (measured s).number ≡ fault w
-  number_refused there some = rw (measured_by_lem s there, some)
+  measured_refused : 3 ≤ length s → faulty w ≡ true → measured s ≡ Err (fault w)
+  measured_refused there some = measured_by_lem s there ∙ simp some
 
-  measured_whole : needed s ≤ length s → eqb (fault w) 0 ≡ true → ((measured s).number ≡ 0) × ((measured s).length ≡ needed s)
+  measured_whole : needed s ≤ length s → faulty w ≡ false → measured s ≡ Ok (needed s)
   measured_whole h none =
       let there : 3 ≤ length s = omega (arith, (needed_bounds s).0) in
       let rest = needed_passed there none in
       let end : needed s ≡ header_end s w = rest ∙ rest_whole s w (omega arith) in
       let whole : ltb (length s) (header_end s w) ≡ false = le-ltb (length s) (header_end s w) (omega arith) in
-      rw (measured_by_lem s there, none, whole, end) (refl, refl)
+      measured_by_lem s there ∙ simp (none, whole) (ap (λ (n : ℕ). Ok n) (sym end))
 
   -- these three are all that there is
-  by_need : {C : Type 0} → (length s < needed s → (measured s).number ≡ 1 → C) →
-      ((measured s).number ≡ 0 → (measured s).length ≡ needed s → C) →
-      (1 < (measured s).number → needed s ≡ 3 → C) →
+  by_need : {C : Type 0} → (length s < needed s → measured s ≡ Err Ended → C) → (measured s ≡ Ok (needed s) → C) →
+      (measured s ≡ Err (fault w) → needed s ≡ 3 → C) →
       C
   by_need short whole refusal =
-      cases (missing? s) (λ missing. short missing (number_short missing))
+      cases (missing? s) (λ missing. short missing (measured_short missing))
       (λ there.
       let three : 3 ≤ length s = omega (arith, (needed_bounds s).0) in
-      cases (holds? (eqb (fault w) 0))
-      (λ none. let q = measured_whole there none in whole q.0 q.1)
-      (λ some.
-      let two : 1 < fault w = ltb-true 1 (fault w) (fault_two w ∙ ap not some) in
-      refusal (omega (arith, number_refused three some)) (needed_refused three some)))
+      cases (holds? (faulty w))
+      (λ some. refusal (measured_refused three some) (needed_refused three some))
+      (λ none. whole (measured_whole there none)))
 
-  -- what is read, by that number and length
-  read_told : (r : HeaderRead) → read_header s ≡ r →
-      ((measured s).number ≡ (read_outcome r).number) × ((measured s).length ≡ (read_outcome r).length)
-  read_told r e = rw (sym (read_measured s), e) (refl, refl)
+  -- what is read, by what measuring says
+  read_told : (r : Result (Header × ℕ) Refusal) → read_header s ≡ r → measured s ≡ read_outcome r
+  read_told r e = sym (read_measured s) ∙ ap read_outcome e
 
-  read_short : length s < needed s → read_header s ≡ Refused Ended
-  read_short h =
-      let one = number_short h in
-      refused_read s (λ zero. omega arith) ∙ ap (λ (n : ℕ). Refused (refusal_of n)) one
+  read_number : number_of (read_header s) ≡ number_of (measured s)
+  read_number = sym (outcome_number (read_header s)) ∙ ap number_of (read_measured s)
 
-  not_short : needed s ≤ length s → read_header s ≡ Refused Ended → ⊥
-  not_short h e =
-      let one = (read_told (Refused Ended) e).0 in
-      by_need (λ missing number. omega arith) (λ zero length. omega arith) (λ two three. omega arith)
+  pub number_most : number_of (read_header s) ≤ 5
+  number_most = omega (arith, read_number, (measured_most s).0)
 
-  read_length : (h : Header) (n : ℕ) → read_header s ≡ Read h n → needed s ≡ n
+  read_short : length s < needed s → read_header s ≡ Err Ended
+  read_short h = sym (refused_read s Ended (sym (measured_short h)))
+
+  pub not_one : needed s ≤ length s → number_of (read_header s) ≡ 1 → ⊥
+  not_one h one =
+      by_need (λ missing short. omega arith) (λ whole. omega (arith, one, read_number, ap number_of whole))
+      (λ refusal three. omega (arith, one, read_number, ap number_of refusal, fault_two w))
+
+  read_length : (h : Header) (n : ℕ) → read_header s ≡ Ok (h, n) → needed s ≡ n
   read_length h n e =
-      let read = read_told (Read h n) e in
-      by_need (λ missing number. omega arith) (λ zero length. omega arith) (λ two three. omega arith)
+      let read = read_told (Ok (h, n)) e in
+      by_need (λ missing short. absurd (never (sym short ∙ read))) (λ whole. one_value (sym whole ∙ read))
+      (λ refusal three. absurd (never (sym refusal ∙ read)))
 
-  read_refusal : (r : HeaderRefusal) → 1 < read_number r → read_header s ≡ Refused r → needed s ≡ 3
-  read_refusal r more e =
-      let read = (read_told (Refused r) e).0 in
-      by_need (λ missing number. omega arith) (λ zero length. omega arith) (λ two three. three)
+  read_refusal : (r : Refusal) → 1 < refusal_number r → read_header s ≡ Err r → needed s ≡ 3
+  read_refusal r two e =
+      let read = read_told (Err r) e in
+      by_need (λ missing short. absurd (omega (arith, two, ap number_of short, ap number_of read)))
+      (λ whole. absurd (never (sym read ∙ whole))) (λ refusal three. three)
 
   -- bytes behind alter neither the header nor the frame control's refusal
-  read_refused : 3 ≤ length s → eqb (fault w) 0 ≡ false → read_header s ≡ Refused (refusal_of (fault w))
-  read_refused there some =
-      let number = number_refused there some in
-      refused_read s (λ zero. eqb-false (fault w) 0 some (sym number ∙ zero)) ∙ ap (λ (n : ℕ). Refused (refusal_of n)) number
+  read_refused : 3 ≤ length s → faulty w ≡ true → read_header s ≡ Err (fault w)
+  read_refused there some = sym (refused_read s (fault w) (sym (measured_refused there some)))
 
-  read_whole : needed s ≤ length s → eqb (fault w) 0 ≡ true → read_header s ≡ Read (header_in s w) (header_end s w)
-  read_whole h none = together s w (measured_passed s (measured_whole h none).0).0
+  read_whole : needed s ≤ length s → faulty w ≡ false → read_header s ≡ Ok (header_in s w, header_end s w)
+  read_whole h none = together s w (measured_passed s (ap number_of (measured_whole h none))).0
 
 read_more : (s more : List ℕ) → needed s ≤ length s → read_header (s ++ more) ≡ read_header s
 read_more s more h =
@@ -148,12 +154,12 @@ read_more s more h =
     let there : 3 ≤ length s = omega (arith, (needed_bounds s).0) in
     let longer : length (s ++ more) ≡ length s + length more = length-append s more in
     let same : number (s ++ more) 0 2 ≡ word = number_more s more 0 2 (omega arith) in
-    cases (holds? (eqb (fault word) 0))
-    (λ none. let read = read_whole s h none in unread s (header_in s word) (header_end s word) more read ∙ sym read)
+    cases (holds? (faulty word))
     (λ some.
-    read_refused (s ++ more) (omega arith) (ap (λ (v : ℕ). eqb (fault v) 0) same ∙ some)
-    ∙ ap (λ (v : ℕ). Refused (refusal_of (fault v))) same
+    read_refused (s ++ more) (omega arith) (ap faulty same ∙ some)
+    ∙ ap (λ (v : ℕ). Err (fault v)) same
     ∙ sym (read_refused s there some))
+    (λ none. let read = read_whole s h none in unread s (header_in s word) (header_end s word) more read ∙ sym read)
 
 -- where one is missing still with bytes behind, one is missing without them
 pub needed_missing : (s more : List ℕ) → length s < needed (s ++ more) → length s < needed s
@@ -167,18 +173,18 @@ beginning s k h =
     needed_missing (take k s) (drop k s) (omega (arith, length-take k s))
 
 -- 37 bytes behind are enough, whatever they are
-enough_behind : (s : List ℕ) → read_header (s ++ replicate 37 0) ≡ Refused Ended → ⊥
+enough_behind : (s : List ℕ) → read_header (s ++ replicate 37 0) ≡ Err Ended → ⊥
 enough_behind s =
     let all = s ++ replicate 37 0 in
     let longer : length all ≡ length s + 37 = length-append s (replicate 37 0) in
-    not_short all (omega (arith, (needed_bounds all).1))
+    λ e. not_one all (omega (arith, (needed_bounds all).1)) (ap number_of e)
 
 pub enough : (s : List ℕ) → Enough s
 enough s = record {
   three = (needed_bounds s).0;
   most = (needed_bounds s).1;
   decided = λ there more. read_more s more there;
-  answered = not_short s;
+  answered = λ there e. not_one s there (ap number_of e);
   short = read_short s;
   undecided = λ missing. (replicate 37 0, enough_behind s);
   earlier = λ k h. read_short (take k s) (beginning s k h);

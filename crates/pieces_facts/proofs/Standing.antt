@@ -15,10 +15,9 @@ use Rattle.octets.proofs.Cases.{cases, holds?}
 use Rattle.octets.proofs.Lists.{take_again}
 use Rattle.header.specs.Read.{read_header}
 use Rattle.pieces.specs.declared.HeaderReader.{HeaderReader}
-use Rattle.pieces.specs.declared.PieceAnswer.TheVariants.{More}
 use Rattle.pieces.specs.declared.PieceTaken.{PieceTaken}
 use Rattle.pieces.specs.Needed.{needed}
-use Rattle.pieces.specs.Answer.{told}
+use Rattle.pieces.specs.Answer.{more, told}
 use Rattle.pieces.specs.Reader.{new_reader, seen, waits, awaited_with, grown, taken_with, taken}
 use Rattle.pieces.proofs.Prefix.{needed_short, needed_bounds, needed_settled, needed_open, needed_grows}
 use Rattle.pieces.proofs.Growing.{grown_seen}
@@ -86,7 +85,7 @@ module _ (r : HeaderReader) (b : List ℕ) (st : Stands r b) (p : List ℕ) wher
       ((λ i. taken_with r p (all i ++ p) (awaited_with (st.awaited i) (all i ++ p))) ∙ ap (taken_with r p j) (awaited_needed b p))
 
   -- more where one is missing still, else the whole reader's answer
-  pub taken_more : length b < needed b → length j < needed j → (taken r p).answer ≡ More
+  pub taken_more : length b < needed b → length j < needed j → (taken r p).answer ≡ more
   taken_more h missing =
       let short : ltb (length j) (needed j) ≡ true = lt-ltb (length j) (needed j) missing in
       ap (λ (t : PieceTaken). t.answer) (taken_needed h) ∙ simp short

@@ -3,44 +3,45 @@
 use Prim.Native.Nat.{ℕ, ◌+◌, ◌≤◌, ◌<◌, min}
 use native.Mathlib.Nat.{add_assoc}
 use native.Mathlib.Omega.{arith}
-use mathlib.Core.Bool.{true, false, cond}
+use mathlib.Core.Bool.{true, false, cond, not}
 use mathlib.Core.List.{List, [], ◌∷◌, ◌++◌, append_assoc, append-nil, flat_map}
 use mathlib.Core.Path.{◌≡◌, refl, sym, ap, ◌∙◌}
-use borrow.Author.Tests.{le-leb, lt-leb}
-use lib.Dec.{leb}
+use borrow.Author.Tests.{eqb-true, eqb-false, ne_eqb, le-leb, lt-leb}
+use lib.Dec.{leb, eqb}
 use lib.ListN.{length, length-append}
 use Rattle.octets.proofs.Cases.{cases, holds?}
+use Rattle.std.specs.Prelude.{Result, Ok, Err}
+use Rattle.octets.specs.declared.Refusal.{Refusal}
+use Rattle.octets.specs.declared.Refusal.TheVariants.{Ended}
+use Rattle.octets.specs.Outcome.{refusal_number, number_of}
+use Rattle.octets.proofs.Accepted.{refusal_some}
 use Rattle.header.specs.declared.Header.{Header}
-use Rattle.header.specs.declared.HeaderRead.{HeaderRead}
-use Rattle.header.specs.declared.HeaderRefusal.{HeaderRefusal}
-use Rattle.header.specs.declared.HeaderRead.TheVariants.{Read, Refused}
-use Rattle.header.specs.declared.HeaderRefusal.TheVariants.{Ended, Version, FrameType, AddressMode, Compression}
-use Rattle.header.specs.Read.{read_number, read_header}
+use Rattle.header.specs.Read.{read_header}
 use Rattle.pieces.specs.declared.HeaderReader.{HeaderReader}
-use Rattle.pieces.specs.declared.PieceAnswer.{PieceAnswer}
-use Rattle.pieces.specs.declared.PieceAnswer.TheVariants.{More}
 use Rattle.pieces.specs.declared.PieceTaken.{PieceTaken}
 use Rattle.pieces.specs.Needed.{needed}
-use Rattle.pieces.specs.Answer.{told}
+use Rattle.pieces.specs.Answer.{PieceAnswer, more, told}
 use Rattle.pieces.specs.Reader.{new_reader, taken, ended}
 use Rattle.pieces.proofs.Prefix.{needed_settled, needed_grows}
 use Rattle.pieces_facts.specs.Calls.{Call, piece, end, handed, behind, run, pieces, joined, final, finals, used_sum}
 use Rattle.pieces_facts.specs.Whole.{used_for, AsWhole}
-use Rattle.pieces_facts.proofs.Enough.{missing?, enough}
+use Rattle.pieces_facts.proofs.Enough.{missing?, number_most, not_one, enough}
 use Rattle.pieces_facts.proofs.Kept.{handed_over, finals_over, used_over, ended_over, at_end}
 use Rattle.pieces_facts.proofs.Standing.{Stands, stands_new, stands_waits, stands_over, stands_next, stands}
 use Rattle.pieces_facts.proofs.Standing.{taken_more, taken_told, taken_used}
 
 -- The bytes used for the whole reader's answer are those up to the last one needed.
-used_by : (r : HeaderRead) (all n : ℕ) → (r ≡ Refused Ended → ⊥) → ((h : Header) (k : ℕ) → r ≡ Read h k → n ≡ k) →
-    ((q : HeaderRefusal) → 1 < read_number q → r ≡ Refused q → n ≡ 3) →
+used_by : (r : Result (Header × ℕ) Refusal) (all n : ℕ) → (number_of r ≡ 1 → ⊥) → ((h : Header) (k : ℕ) → r ≡ Ok (h, k) → n ≡ k) →
+    ((q : Refusal) → 1 < refusal_number q → r ≡ Err q → n ≡ 3) →
     n ≡ used_for r all
-used_by (Read h k) all n answered accepted refused = accepted h k refl
-used_by (Refused Ended) all n answered accepted refused = absurd (answered refl)
-used_by (Refused Version) all n answered accepted refused = refused Version (omega arith) refl
-used_by (Refused FrameType) all n answered accepted refused = refused FrameType (omega arith) refl
-used_by (Refused AddressMode) all n answered accepted refused = refused AddressMode (omega arith) refl
-used_by (Refused Compression) all n answered accepted refused = refused Compression (omega arith) refl
+used_by (Ok p) all n one accepted refused = accepted p.0 p.1 refl
+used_by (Err r) all n one accepted refused =
+    cases (holds? (eqb (refusal_number r) 1))
+    (λ t. absurd (one (eqb-true (refusal_number r) 1 t)))
+    (λ f.
+    let other : refusal_number r ≡ 1 → ⊥ = eqb-false (refusal_number r) 1 f in
+    let two : 1 < refusal_number r = omega (arith, other, (refusal_some r).0) in
+    simp f (refused r two refl))
 
 used_needed : (s : List ℕ) → min (needed s) (length s) ≡ used_for (read_header s) (length s)
 used_needed s =
@@ -48,10 +49,10 @@ used_needed s =
     cases (missing? s)
     (λ missing.
     let all : min (needed s) (length s) ≡ length s = omega arith in
-    all ∙ ap (λ (r : HeaderRead). used_for r (length s)) (sym (facts.short missing)))
+    all ∙ ap (λ (r : Result (Header × ℕ) Refusal). used_for r (length s)) (sym (facts.short missing)))
     (λ there.
     let few : min (needed s) (length s) ≡ needed s = omega arith in
-    few ∙ used_by (read_header s) (length s) (needed s) (facts.answered there) facts.accepted facts.refused)
+    few ∙ used_by (read_header s) (length s) (needed s) (not_one s there) facts.accepted facts.refused)
 
 -- bytes used in front of a piece and by it, whether the reader waits or not
 used_next : (r : HeaderReader) (b p : List ℕ) → Stands r b →
@@ -89,18 +90,19 @@ unfolding used_sum
 used_append [] us = omega arith
 used_append (t ∷ ts) us = omega (arith, used_append ts us)
 
--- an answer in front of others; what the whole reader says is one
-told_final : (r : HeaderRead) → final (told r) ≡ true
-told_final (Read h n) = refl
-told_final (Refused r) = refl
+-- an answer in front of others; what the whole reader says is one, since it never says 9
+told_final : (r : Result (Header × ℕ) Refusal) → number_of r ≤ 5 → final (told r) ≡ true
+told_final (Ok p) most = refl
+told_final (Err r) most = ap not (ne_eqb (refusal_number r) 9 (λ nine. omega (arith, nine, most)))
 
-finals_more : (t : PieceTaken) (ts : List PieceTaken) → t.answer ≡ More → finals (t ∷ ts) ≡ finals ts
+finals_more : (t : PieceTaken) (ts : List PieceTaken) → t.answer ≡ more → finals (t ∷ ts) ≡ finals ts
 unfolding finals
 finals_more t ts e = rw e
 
-finals_told : (t : PieceTaken) (ts : List PieceTaken) (r : HeaderRead) → t.answer ≡ told r → finals (t ∷ ts) ≡ told r ∷ finals ts
+finals_told : (t : PieceTaken) (ts : List PieceTaken) (r : Result (Header × ℕ) Refusal) → t.answer ≡ told r → number_of r ≤ 5 →
+    finals (t ∷ ts) ≡ told r ∷ finals ts
 unfolding finals
-finals_told t ts r e = rw (e, told_final r)
+finals_told t ts r e most = rw (e, told_final r most)
 
 -- All pieces: the one answer where all bytes needed are there, and the bytes up to the last one needed.
 abbrev answers : List ℕ → List PieceAnswer
@@ -112,11 +114,11 @@ answers_short s h = let short : leb (needed s) (length s) ≡ false = lt-leb (ne
 answers_there : (s : List ℕ) → needed s ≤ length s → told (read_header s) ∷ [] ≡ answers s
 answers_there s h = let there : leb (needed s) (length s) ≡ true = le-leb (needed s) (length s) h in simp there
 
-answers_more : (s more : List ℕ) → needed s ≤ length s → told (read_header s) ∷ [] ≡ answers (s ++ more)
-answers_more s more h =
-    let same = needed_settled s more h in
-    ap (λ (r : HeaderRead). told r ∷ []) (sym ((enough s).decided h more))
-    ∙ answers_there (s ++ more) (omega (arith, length-append s more))
+answers_more : (s t : List ℕ) → needed s ≤ length s → told (read_header s) ∷ [] ≡ answers (s ++ t)
+answers_more s t h =
+    let same = needed_settled s t h in
+    ap (λ (r : Result (Header × ℕ) Refusal). told r ∷ []) (sym ((enough s).decided h t))
+    ∙ answers_there (s ++ t) (omega (arith, length-append s t))
 
 pieces_finals : (r : HeaderReader) (b : List ℕ) (ps : List (List ℕ)) → Stands r b → length b < needed b →
     finals (run r (pieces ps)) ≡ answers (b ++ joined ps)
@@ -130,7 +132,7 @@ pieces_finals r b (p ∷ ps) st h =
     cases (missing? j)
     (λ missing. finals_more t rest (taken_more r b st p h missing) ∙ pieces_finals t.reader j ps on missing)
     (λ there.
-    finals_told t rest (read_header j) (taken_told r b st p h there)
+    finals_told t rest (read_header j) (taken_told r b st p h there) (number_most j)
     ∙ ap (λ (l : List PieceAnswer). told (read_header j) ∷ l) (finals_over t.reader (pieces ps) (stands_over t.reader j on there))
     ∙ answers_more j (joined ps) there)
     ∙ ap answers (append_assoc b p (joined ps))
@@ -155,10 +157,10 @@ end_finals r later s st =
     cases (missing? s)
     (λ missing.
     let waits = stands_waits r s st missing in
-    let one : (ended r).answer ≡ told (Refused Ended) = simp waits in
-    let ends : Refused Ended ≡ read_header s = sym ((enough s).short missing) in
+    let one : (ended r).answer ≡ told (Err Ended) = simp waits in
+    let ends : Err Ended ≡ read_header s = sym ((enough s).short missing) in
     ap (λ (l : List PieceAnswer). l ++ finals (run r (end ∷ later))) (sym (answers_short s missing))
-    ∙ finals_told (ended r) (run (ended r).reader later) (Refused Ended) one
+    ∙ finals_told (ended r) (run (ended r).reader later) (Err Ended) one (omega arith)
     ∙ (λ i. told (ends i) ∷ finals_over (ended r).reader later (ended_over r) i))
     (λ there i. sym (answers_there s there) i ++ finals_over r (end ∷ later) (stands_over r s st there) i)
 

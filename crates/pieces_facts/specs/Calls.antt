@@ -1,9 +1,9 @@
 -- Calls of a reader, one after the other, and what they hand back (document 02, request 1: "for each way of cutting the
 -- input").
-use Rattle.std.specs.Prelude.{ℕ, ◌+◌, Bool, true, false, cond, List, [], ◌∷◌, map}
-use Rattle.octets.specs.Words.{flat_map}
-use Rattle.pieces.specs.declared.{HeaderReader.HeaderReader, PieceAnswer.PieceAnswer, PieceTaken.PieceTaken}
-use Rattle.pieces.specs.declared.PieceAnswer.TheVariants.{More, Done, Refused, Over}
+use Rattle.std.specs.Prelude.{ℕ, ◌+◌, Bool, true, false, cond, not, eqb, List, [], ◌∷◌, map, Some, None, Ok, Err}
+use Rattle.octets.specs.{Words.flat_map, Outcome.refusal_number}
+use Rattle.pieces.specs.declared.{HeaderReader.HeaderReader, PieceTaken.PieceTaken}
+use Rattle.pieces.specs.Answer.{PieceAnswer}
 use Rattle.pieces.specs.Reader.{taken, ended}
 
 -- a piece, or the end
@@ -35,10 +35,9 @@ joined ps = flat_map (λ (p : List ℕ). p) ps
 
 -- the answers that are neither more nor 9
 abbrev pub final : PieceAnswer → Bool
-final More = false
-final (Done h n) = true
-final (Refused r) = true
-final Over = false
+final (Ok None) = false
+final (Ok (Some p)) = true
+final (Err r) = not (eqb (refusal_number r) 9)
 
 unfoldable pub finals : List PieceTaken → List PieceAnswer
 finals [] = []

@@ -1,22 +1,18 @@
 -- The reader in pieces beside the whole reader, however the bytes of a frame are cut (document 02, request 1).
-use Rattle.std.specs.Prelude.{ℕ, ◌+◌, ◌-◌, ◌≤◌, ◌<◌, cond, List, [], ◌∷◌, ◌++◌, ◌≡◌, leb, length}
-use Rattle.octets.specs.{Outcome.refused}
-use Rattle.header.specs.{declared.HeaderRead.HeaderRead, Read.read_header}
-use Rattle.header.specs.declared.HeaderRead.TheVariants.{Read, Refused}
-use Rattle.header.specs.declared.HeaderRefusal.TheVariants.{Ended, Version, FrameType, AddressMode, Compression}
-use Rattle.pieces.specs.declared.{HeaderReader.HeaderReader, PieceAnswer.TheVariants.More}
-use Rattle.pieces.specs.{Needed.needed, Answer.told, Answer.piece_outcome}
+use Rattle.std.specs.Prelude.{ℕ, ◌+◌, ◌-◌, ◌≤◌, ◌<◌, cond, List, [], ◌∷◌, ◌++◌, ◌≡◌, leb, eqb, length, Result, Ok, Err}
+use Rattle.octets.specs.declared.Refusal.{Refusal}
+use Rattle.octets.specs.declared.Refusal.TheVariants.{Ended, Over}
+use Rattle.octets.specs.Outcome.{refusal_number}
+use Rattle.header.specs.{declared.Header.Header, Read.read_header}
+use Rattle.pieces.specs.declared.{HeaderReader.HeaderReader}
+use Rattle.pieces.specs.{Needed.needed, Answer.more, Answer.told, Answer.piece_outcome}
 use Rattle.pieces.specs.Reader.{new_reader, waits, over, taken, ended}
 use Rattle.pieces_facts.specs.Calls.{Call, end, handed, behind, run, pieces, joined, finals, used_sum}
 
 -- bytes used for an answer to so many bytes: the header's length, all where they end, three at refusals 2 to 5
-abbrev pub used_for : HeaderRead → ℕ → ℕ
-used_for (Read h n) all = n
-used_for (Refused Ended) all = all
-used_for (Refused Version) all = 3
-used_for (Refused FrameType) all = 3
-used_for (Refused AddressMode) all = 3
-used_for (Refused Compression) all = 3
+abbrev pub used_for : Result (Header × ℕ) Refusal → ℕ → ℕ
+used_for (Ok p) all = p.1
+used_for (Err r) all = cond (eqb (refusal_number r) 1) all 3
 
 -- all pieces of a frame, the end, and any calls behind it
 pub record AsWhole (ps : List (List ℕ)) (later : List Call) : Type 0 where
@@ -46,7 +42,7 @@ module _ (ps : List (List ℕ)) (p : List ℕ) (qs : List (List ℕ)) where
 
   pub record InPlace : Type 0 where
     -- in front of the last byte needed: more, and all of it is used
-    pub before : to < needed s → ((taken reader p).answer ≡ More) × ((taken reader p).used ≡ length p)
+    pub before : to < needed s → ((taken reader p).answer ≡ more) × ((taken reader p).used ≡ length p)
     -- it holds the last byte needed: the answer, and no byte behind that one is used
     pub last : from < needed s → needed s ≤ to →
         ((taken reader p).answer ≡ told (read_header s)) × ((taken reader p).used ≡ needed s - from)
@@ -60,5 +56,5 @@ Later cs =
 
 -- the end says 1 or 9 and nothing else, and uses no byte, whatever the reader
 pub record AtEnd (r : HeaderReader) : Type 0 where
-  pub says : piece_outcome (ended r).answer ≡ refused (cond (waits r) 1 9)
+  pub says : piece_outcome (ended r).answer ≡ Err (cond (waits r) Ended Over)
   pub uses : (ended r).used ≡ 0

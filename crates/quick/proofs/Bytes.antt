@@ -20,8 +20,5 @@ module _ (a b : ℕ) where
   pub security_bit : bits (a + 256 * b) 3 1 ≡ a / 8 % 2
   security_bit = omega arith
 
-  pub compression_bit : bits (a + 256 * b) 6 1 ≡ a / 64 % 2
-  compression_bit = omega arith
-
   pub upper_bits : a < 256 → b < 256 → bits (a + 256 * b) 10 6 ≡ b / 4
   upper_bits h k = omega arith

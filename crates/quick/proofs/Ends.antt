@@ -8,19 +8,18 @@ use mathlib.Core.Path.{◌≡◌, refl}
 use borrow.Author.Tests.{lt-ltb, eq-eqb, eqb-true, eqb-false}
 use lib.Dec.{ltb}
 use lib.ListN.{length, get_or}
-use Rattle.octets.specs.declared.Outcome.{Outcome}
 use Rattle.octets.specs.{Bits.bits, Bits.bit, Little.number}
 use Rattle.octets.proofs.Cases.{cases, holds?}
 use Rattle.octets.proofs.Little.{number_one}
 use Rattle.header_bytes.specs.Layout.{security_size, source_end, header_end}
-use Rattle.header_bytes.specs.Reading.{answered}
 use Rattle.header_bytes.proofs.Sizes.{header_end_lem, control_inside}
-use Rattle.quick.specs.Code.{code_of}
+use Rattle.octets.specs.Outcome.{code_of, answered, Outcome}
+use Rattle.octets.specs.declared.Refusal.TheVariants.{Ended}
 use Rattle.quick.specs.Table.{control_end}
 
 -- what is told behind the frame control: all bytes of the header are there, or 1
 abbrev pub rest : List ℕ → ℕ → Outcome
-rest s w = answered ((ltb (length s) (header_end s w), 1) ∷ []) (header_end s w)
+rest s w = answered ((ltb (length s) (header_end s w), Ended) ∷ []) (header_end s w)
 
 module _ (s : List ℕ) (w : ℕ) where
   pub ended : length s < header_end s w → 1001 ≡ code_of (rest s w)

@@ -3,3 +3,4 @@ pub mod Table
 pub mod Bytes
 pub mod Ends
 pub mod Looking
+pub mod Steps

@@ -9,16 +9,17 @@ use mathlib.Core.Path.{◌≡◌, refl, sym, ap}
 use borrow.Author.Tests.{ltb-false, le-ltb, eqb-true}
 use lib.Dec.{ltb, eqb}
 use lib.ListN.{length}
-use Rattle.octets.specs.declared.Outcome.{Outcome}
-use Rattle.octets.specs.{Bits.bits, Bits.bit, Little.number, Outcome.refused, Outcome.accepted}
+use Rattle.octets.specs.{Bits.bits, Bits.bit, Little.number}
 use Rattle.octets.proofs.Cases.{cases, holds?}
 use Rattle.header_bytes.specs.Layout.{destination_end, source_end, header_end}
 use Rattle.header_bytes.specs.Reading.{unshared, measured}
 use Rattle.header_bytes.proofs.Passed.{idle_first}
 use Rattle.header_bytes.proofs.Sizes.{source_end_lem, header_end_lem}
-use Rattle.quick.specs.Code.{code_of}
+use Rattle.octets.specs.Outcome.{code_of, Outcome}
 use Rattle.quick.specs.Table.{control_end, entry_of}
 use Rattle.quick.proofs.Ends.{rest}
+use Rattle.std.specs.Prelude.{Ok, Err}
+use Rattle.octets.specs.declared.Refusal.TheVariants.{AddressMode, Ended, FrameType, NoDestination, Version}
 
 -- the entry and the answer by the tests alone: version, the two modes, compression, and the type
 abbrev lettered : Bool → Bool → Bool → Bool → ℕ → ℕ
@@ -26,16 +27,16 @@ lettered version to from shared n = cond version 50 (cond to 52 (cond from 52 (c
 
 abbrev answer : Bool → Bool → Bool → Bool → Bool → Outcome → Outcome
 answer version kind to from shared rest =
-    cond version (refused 2) (cond kind (refused 3) (cond to (refused 4) (cond from (refused 4) (cond shared (refused 5) rest))))
+    cond version (Err Version) (cond kind (Err FrameType) (cond to (Err AddressMode) (cond from (Err AddressMode) (cond shared (Err NoDestination) rest))))
 
-version_told : (v k a b u : Bool) (n : ℕ) (rest : Outcome) → lettered v a b u n ≡ 50 → answer v k a b u rest ≡ refused 2
+version_told : (v k a b u : Bool) (n : ℕ) (rest : Outcome) → lettered v a b u n ≡ 50 → answer v k a b u rest ≡ Err Version
 version_told true k a b u n rest e = refl
 version_told false k true b u n rest e = absurd (omega arith)
 version_told false k false true u n rest e = absurd (omega arith)
 version_told false k false false true n rest e = absurd (omega arith)
 version_told false k false false false n rest e = absurd (omega arith)
 
-type_told : (v a b u : Bool) (n : ℕ) (rest : Outcome) → (lettered v a b u n ≡ 50 → ⊥) → answer v true a b u rest ≡ refused 3
+type_told : (v a b u : Bool) (n : ℕ) (rest : Outcome) → (lettered v a b u n ≡ 50 → ⊥) → answer v true a b u rest ≡ Err FrameType
 type_told true a b u n rest f = absurd (f refl)
 type_told false a b u n rest f = refl
 
@@ -67,10 +68,10 @@ no_destination w e =
 
 -- the tests behind the modes: 5 needs none for the destination, and one test serves for all bytes
 behind_modes : (s : List ℕ) (w : ℕ) → 3 ≤ length s →
-    cond (ltb (length s) (destination_end w)) (refused 1)
-    (cond (unshared w) (refused 5)
-    (cond (ltb (length s) (source_end w)) (refused 1) (rest s w)))
-    ≡ cond (unshared w) (refused 5) (rest s w)
+    cond (ltb (length s) (destination_end w)) (Err Ended)
+    (cond (unshared w) (Err NoDestination)
+    (cond (ltb (length s) (source_end w)) (Err Ended) (rest s w)))
+    ≡ cond (unshared w) (Err NoDestination) (rest s w)
 behind_modes s w h =
     let n = length s in
     let end = header_end s w in
@@ -79,9 +80,9 @@ behind_modes s w h =
     cases (holds? (unshared w))
     (λ t. let there = le-ltb n (destination_end w) (omega (arith, no_destination w t)) in rw (t, there) refl)
     (λ f.
-    let source = idle_first (ltb n (source_end w)) (ltb n end) (refused 1) (accepted end) (λ g. le-ltb n (source_end w) (inside g)) in
+    let source = idle_first (ltb n (source_end w)) (ltb n end) (Err Ended) (Ok end) (λ g. le-ltb n (source_end w) (inside g)) in
     let destination =
-    idle_first (ltb n (destination_end w)) (ltb n end) (refused 1) (accepted end)
+    idle_first (ltb n (destination_end w)) (ltb n end) (Err Ended) (Ok end)
     (λ g. let far = inside g in le-ltb n (destination_end w) (omega arith)) in
     rw (f, source) destination)
 
@@ -106,10 +107,10 @@ module _ (s : List ℕ) (w : ℕ) where
   unfolding measured
   looked e h = rw (e, le-ltb (length s) 3 h) (ap (answer version kind to from false) (behind_modes s w h))
 
-  pub version_looked : entry_of w ≡ 50 → told ≡ refused 2
+  pub version_looked : entry_of w ≡ 50 → told ≡ Err Version
   version_looked e = version_told version kind to from (unshared w) (control_end w) (rest s w) e
 
-  pub type_looked : (entry_of w ≡ 50 → ⊥) → kind ≡ true → told ≡ refused 3
+  pub type_looked : (entry_of w ≡ 50 → ⊥) → kind ≡ true → told ≡ Err FrameType
   type_looked f t = rw t (type_told version to from (unshared w) (control_end w) (rest s w) f)
 
   pub refusal_looked : (entry_of w ≡ 50 → ⊥) → kind ≡ false → entry_of w < 97 → (48 ≤ entry_of w) × (1000 + (entry_of w - 48) ≡ code_of told)

@@ -1,30 +1,44 @@
 -- The one number of an answer: the length where it accepts, and from 1000 on where it refuses.
 -- Assumes nothing.
-use Prim.Native.Nat.{◌+◌, ◌≤◌, ◌<◌}
+use Prim.Native.Nat.{ℕ, ◌+◌, ◌≤◌}
 use native.Mathlib.Omega.{arith}
-use mathlib.Core.Bool.{true, false}
 use mathlib.Core.Path.{◌≡◌, refl, sym, ap, ◌∙◌}
-use borrow.Author.Tests.{eq-eqb, eqb-true}
-use lib.Dec.{eqb}
-use Rattle.octets.specs.declared.Outcome.{Outcome}
-use Rattle.octets.specs.Outcome.{accepted}
-use Rattle.octets.proofs.Accepted.{accepted_of}
-use Rattle.octets.proofs.Cases.{cases, holds?}
-use Rattle.quick.specs.Code.{code_of}
+use Rattle.std.specs.Prelude.{[], ◌∷◌, Ok, Err}
+use Rattle.octets.specs.declared.Refusal.{Refusal}
+use Rattle.octets.specs.declared.Refusal.TheVariants.{Ended, Version, FrameType, AddressMode, NoDestination}
+use Rattle.octets.specs.declared.Refusal.TheVariants.{MissingAddress, MissingCounter, TooLarge, WrongLength, Over}
+use Rattle.octets.proofs.Accepted.{refusal_some}
+use Rattle.octets.specs.{Bits.find, Outcome.Outcome, Outcome.refusal_number, Outcome.number_of, Outcome.length_of, Outcome.code_of}
 
-module _ (o : Outcome) where
-  by_length : eqb o.number 0 ≡ true → code_of o ≡ o.length
-  by_length t = rw t refl
+-- reading's refusals have numbers of their own
+abbrev reading : ℕ → Refusal
+reading n = find ((1, Ended) ∷ (2, Version) ∷ (3, FrameType) ∷ (4, AddressMode) ∷ []) NoDestination (λ r. r) n
 
-  pub by_number : eqb o.number 0 ≡ false → code_of o ≡ 1000 + o.number
-  by_number f = rw f refl
+reading_back : (r : Refusal) → refusal_number r ≤ 5 → reading (refusal_number r) ≡ r
+reading_back Ended h = refl
+reading_back Version h = refl
+reading_back FrameType h = refl
+reading_back AddressMode h = refl
+reading_back NoDestination h = refl
+reading_back MissingAddress h = absurd (omega arith)
+reading_back MissingCounter h = absurd (omega arith)
+reading_back TooLarge h = absurd (omega arith)
+reading_back WrongLength h = absurd (omega arith)
+reading_back Over h = absurd (omega arith)
 
-  pub code_accepts : code_of o < 1000 → accepted (code_of o) ≡ o
-  code_accepts h =
-      cases (holds? (eqb o.number 0))
-      (λ t. ap accepted (by_length t) ∙ sym (accepted_of o (eqb-true _ 0 t)))
-      (λ f. absurd (omega (arith, h, by_number f)))
+-- a length being below 1000, a number from there on tells the refusal
+pub code_refuses : (o : Outcome) (r : Refusal) → length_of o ≤ 37 → number_of o ≤ 5 → refusal_number r ≤ 5 →
+    code_of o ≡ 1000 + refusal_number r → Err r ≡ o
+code_refuses (Ok n) r short few h e = absurd (omega arith)
+code_refuses (Err q) r short few h e =
+    let same : refusal_number r ≡ refusal_number q = omega arith in
+    ap Err (sym (reading_back r h) ∙ ap reading same ∙ reading_back q few)
 
-  -- lengths being below 1000
-  pub code_refuses : o.length ≤ 37 → 1000 ≤ code_of o → o.number ≡ 0 → ⊥
-  code_refuses short h z = absurd (omega (arith, short, h, by_length (eq-eqb _ 0 z)))
+-- no other numbers are given
+pub code_other : (o : Outcome) → length_of o ≤ 37 → number_of o ≤ 5 → 1000 ≤ code_of o →
+    (code_of o ≡ 1001 → ⊥) → (code_of o ≡ 1002 → ⊥) → (code_of o ≡ 1003 → ⊥) → (code_of o ≡ 1004 → ⊥) →
+    Err NoDestination ≡ o
+code_other (Ok n) short few h a b c d = absurd (omega arith)
+code_other (Err r) short few h a b c d =
+    let some = (refusal_some r).0 in
+    code_refuses (Err r) NoDestination (omega arith) few (omega arith) (omega (arith, few, some, a, b, c, d))

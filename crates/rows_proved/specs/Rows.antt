@@ -1,27 +1,22 @@
 -- Document 01, "Frames to try", rows P1 to P13: what reading a header, a beacon or a GTS field answers, its record, its
 -- lengths, and what writing it again gives. P12 and P13 are as requests 6 and 2 of document 02 change them.
-use Rattle.std.specs.Prelude.{ℕ, Bool, true, false, cond, List, [], ◌∷◌, eqb, replicate}
-use Rattle.octets.specs.declared.{Outcome.Outcome}
-use Rattle.octets.specs.Value.{value_outcome}
-use Rattle.key_identifier.specs.declared.{OptionalKeySource.OptionalKeySource}
+use Rattle.std.specs.Prelude.{ℕ, Bool, true, false, List, [], ◌∷◌, replicate, Option, Some, None, Result, Ok, Err}
+use Rattle.octets.specs.{declared.Refusal.Refusal, Outcome.Outcome, Outcome.refusal_number}
 use Rattle.key_identifier.specs.Key.{key_of}
 use Rattle.frame_control.specs.declared.{FrameType.FrameType}
 use Rattle.frame_control.specs.declared.FrameType.TheVariants.{Beacon as BeaconFrame, Data as DataFrame}
 use Rattle.frame_control.specs.declared.FrameVersion.TheVariants.{Ieee802154_2003}
 use Rattle.identifiers.specs.{PanId.pan, ShortAddress.short}
-use Rattle.address.specs.declared.{OptionalAddress.OptionalAddress}
-use Rattle.address.specs.declared.Address.TheVariants.{Short}
+use Rattle.address.specs.declared.{Address.Address, Address.TheVariants.Short}
 use Rattle.address.specs.Address.{mode_of}
 use Rattle.security_control.specs.Control.{security_control_of}
 use Rattle.security_control.specs.declared.KeyIdentifierMode.TheVariants.{KeyIndex}
-use Rattle.security.specs.declared.{OptionalSecurityHeader.OptionalSecurityHeader}
+use Rattle.security.specs.declared.{AuxiliarySecurityHeader.AuxiliarySecurityHeader}
 use Rattle.security.specs.{Optional.is_present, Security.security_of}
-use Rattle.header_parts.specs.Parts.{written_outcome}
-use Rattle.header.specs.declared.{Header.Header, HeaderRead.HeaderRead}
+use Rattle.header.specs.declared.{Header.Header}
 use Rattle.header.specs.Record.{header_of, octet_size}
-use Rattle.header.specs.Read.{read_header, read_number}
+use Rattle.header.specs.Read.{read_header}
 use Rattle.header.specs.Write.{write_header}
-use Rattle.header.specs.declared.HeaderRead.TheVariants.{Read, Refused}
 use Rattle.header_facts.specs.Rewritten.{own_counter, rewritten}
 use Rattle.superframe.specs.declared.{SuperframeSpecification.SuperframeSpecification}
 use Rattle.superframe.specs.declared.BeaconOrder.TheVariants.{BeaconOrder}
@@ -56,26 +51,27 @@ pub data Seen : Type 0 where
   slots : record { read : GuaranteedTimeSlotInformation; length : ℕ; again : Written } → Seen
 
 abbrev written_as : Outcome → List ℕ → Written
-written_as o bytes = cond (eqb o.number 0) (written o.length bytes) (refused o.number)
+written_as (Ok n) bytes = written n bytes
+written_as (Err r) bytes = refused (refusal_number r)
 
 abbrev header_again : Header → ℕ → Written
-header_again h n =
-    written_as (written_outcome (write_header h (own_counter h) n)) (rewritten h)
+header_again h n = written_as (write_header h (own_counter h) n) (rewritten h)
 
 abbrev beacon_again : Beacon → ℕ → Written
-beacon_again x n = written_as (value_outcome (write_beacon x (replicate n 0) 0)) (beacon_bytes x)
+beacon_again x n = written_as (write_beacon x (replicate n 0) 0) (beacon_bytes x)
 
 abbrev slots_again : GuaranteedTimeSlotInformation → ℕ → Written
-slots_again x n = written_as (value_outcome (write_time_slots x (replicate n 0) 0)) (time_slots_bytes x)
+slots_again x n = written_as (write_time_slots x (replicate n 0) 0) (time_slots_bytes x)
 
-abbrev pub header_seen : HeaderRead → Seen
-header_seen (Refused r) = refusal (read_number r)
-header_seen (Read h n) =
+abbrev pub header_seen : Result (Header × ℕ) Refusal → Seen
+header_seen (Ok (h, n)) =
     header (record { read = h; length = n; kept = h.length; get_octet_size = octet_size h; again = header_again h n })
+header_seen (Err r) = refusal (refusal_number r)
 
 -- of an answer with its outcome beside it
 abbrev outcome_seen : Outcome → (ℕ → Seen) → Seen
-outcome_seen o accepted = cond (eqb o.number 0) (accepted o.length) (refusal o.number)
+outcome_seen (Ok n) accepted = accepted n
+outcome_seen (Err r) accepted = refusal (refusal_number r)
 
 abbrev pub beacon_seen : BeaconRead → Seen
 beacon_seen r =
@@ -94,8 +90,8 @@ seen (slots? s) = slots_seen (read_time_slots s 0)
 
 -- the headers of the rows: version 0, no pending data and no acknowledgement asked for; compressed or not; flagged, by
 -- bits 8 and 9 both, or by neither
-abbrev pub header_with : FrameType → (compressed flagged : Bool) → ℕ → (destination source : OptionalAddress) →
-    OptionalSecurityHeader → Header
+abbrev pub header_with : FrameType → (compressed flagged : Bool) → ℕ → (destination source : Option Address) →
+    Option AuxiliarySecurityHeader → Header
 header_with kind compressed flagged seq destination source security =
     header_of
     (record {
@@ -125,19 +121,18 @@ abbrev unflagged : Bool
 unflagged = false
 
 -- a short address in a PAN
-abbrev pub device : (panId address : ℕ) → OptionalAddress
-device p a = OptionalAddress.Present (Short (pan p) (short a))
+abbrev pub device : (panId address : ℕ) → Option Address
+device p a = Some (Short (pan p) (short a))
 
-abbrev pub nobody : OptionalAddress
-nobody = OptionalAddress.Absent
+abbrev pub nobody : Option Address
+nobody = None
 
-abbrev pub unsecured : OptionalSecurityHeader
-unsecured = OptionalSecurityHeader.Absent
+abbrev pub unsecured : Option AuxiliarySecurityHeader
+unsecured = None
 
 -- level 5, counter 1, a key's index 7 and no source of it
-abbrev pub level_five : OptionalSecurityHeader
-level_five =
-    OptionalSecurityHeader.Present (security_of (security_control_of 5 KeyIndex) 1 (key_of OptionalKeySource.Absent 7))
+abbrev pub level_five : Option AuxiliarySecurityHeader
+level_five = Some (security_of (security_control_of 5 KeyIndex) 1 (key_of None 7))
 
 -- orders 6 and 4, slot 15, coordinator, association permit
 abbrev pub orders_six_four : SuperframeSpecification

@@ -20,9 +20,6 @@ use Rattle.security_control.specs.declared.SecurityControl.{SecurityControl}
 use Rattle.security_control.specs.Control.{security_control_of, security_control_in}
 use Rattle.security_control.proofs.Control.{control_small, control_back, control_again}
 use Rattle.security.specs.declared.AuxiliarySecurityHeader.{AuxiliarySecurityHeader}
-use Rattle.security.specs.declared.OptionalSecurityHeader.{OptionalSecurityHeader}
-use Rattle.security.specs.declared.OptionalSecurityHeader.TheVariants.{Absent, Present}
-use Rattle.security.specs.declared.SecurityHeaderRead.TheVariants.{Read}
 use Rattle.security.specs.Optional.{optional_length, optional_bytes}
 use Rattle.key_identifier.specs.Key.{mode_of_key, key_length, key_in, key_bytes}
 use Rattle.security.specs.Security.{security_of, control_at, length_in, security_in, level_of, security_length, security_control_written}
@@ -30,14 +27,15 @@ use Rattle.security.specs.Security.{security_bytes, SmallSecurity}
 use Rattle.security.specs.Answer.{read_security}
 use Rattle.security.specs.RoundTrip.{security_told, security_cleared, security_rewritten}
 use Rattle.key_identifier.proofs.Keys.{key_length_lem, key_bytes_lem, key_back, key_again, key_more, key_small, key_mode}
+use Rattle.std.specs.Prelude.{Option, Some, None, Ok}
 
 pub security_length_lem : (h : AuxiliarySecurityHeader) (counter : ℕ) → length (security_bytes h counter) ≡ security_length h
 unfolding security_bytes
 security_length_lem h counter = simp (length-append, split_length, key_length_lem) (omega arith)
 
-pub optional_length_lem : (k : OptionalSecurityHeader) (counter : ℕ) → length (optional_bytes k counter) ≡ optional_length k
-optional_length_lem Absent counter = refl
-optional_length_lem (Present k) counter = security_length_lem k counter
+pub optional_length_lem : (k : Option AuxiliarySecurityHeader) (counter : ℕ) → length (optional_bytes k counter) ≡ optional_length k
+optional_length_lem None counter = refl
+optional_length_lem (Some k) counter = security_length_lem k counter
 
 pub security_bytes_lem : (h : AuxiliarySecurityHeader) (counter : ℕ) → Bytes (security_bytes h counter)
 unfolding security_bytes
@@ -97,7 +95,7 @@ module _ (h : AuxiliarySecurityHeader) (counter : ℕ) (before after : List ℕ)
   there = simp (length-append, security_length_lem) (omega (arith, e))
 
   -- and is read so
-  pub security_back : SmallSecurity h → counter < 256 ^ 4 → read_security whole at ≡ Read (security_told h counter) (security_length h)
+  pub security_back : SmallSecurity h → counter < 256 ^ 4 → read_security whole at ≡ Ok ((security_told h counter), (security_length h))
   unfolding read_security
   security_back l m =
       let enough : ends whole at (security_length h) ≡ false = le-ltb (length whole - at) (security_length h) there in

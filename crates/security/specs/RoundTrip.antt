@@ -1,14 +1,11 @@
 -- Demand 3 for a security header: read, written again with the counter that was read, and read once more.
-use Rattle.std.specs.Prelude.{ℕ, ◌+◌, ◌-◌, ◌≤◌, List, ◌++◌, ◌≡◌, length, take, drop}
+use Rattle.std.specs.Prelude.{ℕ, ◌+◌, ◌-◌, ◌≤◌, List, ◌++◌, ◌≡◌, length, take, drop, Some, Ok}
 use Rattle.octets.specs.{Bits.clear_at, Buffer.laid}
 use Rattle.security_control.specs.Control.{security_control_of}
 use Rattle.key_identifier.specs.Key.{mode_of_key}
 use Rattle.security.specs.declared.{AuxiliarySecurityHeader.AuxiliarySecurityHeader}
 use Rattle.security.specs.Security.{security_of, length_in, level_of, security_bytes}
 use Rattle.security.specs.Answer.{read_security, write_security}
-use Rattle.security.specs.declared.OptionalCounter.TheVariants.{Present}
-use Rattle.security.specs.declared.SecurityHeaderRead.TheVariants.{Read}
-use Rattle.security.specs.declared.SecurityHeaderWritten.TheVariants.{Written}
 
 -- the bytes of the security header at a place, with control bits 5, 6, 7 cleared and no others (document 01, "Bits that
 -- writing clears")
@@ -30,7 +27,7 @@ pub record RoundTrip (s : List ℕ) (at : ℕ) (h : AuxiliarySecurityHeader) (n 
   pub within : n ≤ length s - at
   -- with room, writing it again is accepted
   pub accepted : (out : List ℕ) (place : ℕ) → n ≤ length out - place →
-      write_security h (Present h.frame_counter) out place ≡ Written n
+      write_security h (Some h.frame_counter) out place ≡ Ok n
   -- it gives the bytes that were read, but for the listed bits cleared, and as many
   pub written : security_rewritten h ≡ security_cleared s at
   pub long : length (security_rewritten h) ≡ n
@@ -39,8 +36,8 @@ pub record RoundTrip (s : List ℕ) (at : ℕ) (h : AuxiliarySecurityHeader) (n 
       laid out to (security_rewritten h) ≡ take to out ++ (security_rewritten h ++ drop (to + n) out)
   -- reading them gives the same record, wherever they stand
   pub again : (before after : List ℕ) →
-      read_security (before ++ (security_rewritten h ++ after)) (length before) ≡ Read h n
+      read_security (before ++ (security_rewritten h ++ after)) (length before) ≡ Ok (h, n)
   -- there is nothing left to clear
   pub settled : security_cleared (security_rewritten h) 0 ≡ security_rewritten h
   -- bytes added behind the input alter none of this
-  pub behind : (more : List ℕ) → read_security (s ++ more) at ≡ Read h n
+  pub behind : (more : List ℕ) → read_security (s ++ more) at ≡ Ok (h, n)

@@ -1,14 +1,14 @@
 -- The auxiliary security header, document 01, "Header layout" (IEEE 802.15.4-2011, 7.4): control (1), frame counter
 -- (4), key identifier.
-use Rattle.std.specs.Prelude.{ℕ, ◌+◌, ◌<◌, List, ◌++◌}
+use Rattle.std.specs.Prelude.{ℕ, ◌+◌, ◌<◌, List, ◌++◌, Option}
 use Rattle.octets.specs.Little.{number, split}
 use Rattle.security_control.specs.declared.{SecurityControl.SecurityControl}
 use Rattle.security_control.specs.Control.{security_control_of, security_control_in, security_control_bits}
-use Rattle.key_identifier.specs.declared.{OptionalKeyIdentifier.OptionalKeyIdentifier}
 use Rattle.key_identifier.specs.Key.{mode_of_key, key_length, key_in, key_bytes, SmallKey}
 use Rattle.security.specs.declared.{AuxiliarySecurityHeader.AuxiliarySecurityHeader}
+use Rattle.key_identifier.specs.declared.KeyIdentifier.{KeyIdentifier}
 
-abbrev pub security_of : SecurityControl → ℕ → OptionalKeyIdentifier → AuxiliarySecurityHeader
+abbrev pub security_of : SecurityControl → ℕ → Option KeyIdentifier → AuxiliarySecurityHeader
 security_of control counter key = record { control = control; frame_counter = counter; key_identifier = key }
 
 -- the control at a place, how many bytes it announces, and what they say

@@ -9,6 +9,7 @@ use Rattle.security_control.specs.declared.KeyIdentifierMode.{KeyIdentifierMode}
 use Rattle.security_control.specs.declared.KeyIdentifierMode.TheVariants.{None, KeyIndex, KeySource4, KeySource8}
 use Rattle.security_control.specs.declared.SecurityControl.{SecurityControl}
 use Rattle.security_control.specs.Control.{key_mode_of, key_mode_bits, security_control_in, security_control_bits}
+use Rattle.std.specs.Prelude.{None}
 
 pub mode_back : (m : KeyIdentifierMode) → key_mode_of (key_mode_bits m) ≡ m
 unfolding key_mode_of

@@ -1,12 +1,10 @@
 -- The security control byte, document 01, "Header layout" (IEEE 802.15.4-2011, 7.4.1): level bits 0-2, all eight
 -- accepted, key mode bits 3-4, bits 5-7 not read.
-use Rattle.std.specs.Prelude.{ℕ, ◌+◌, ◌*◌, ◌^◌, Bool, List, [], ◌∷◌, ltb}
-use Rattle.octets.specs.{declared.Outcome.Outcome, Outcome.accepted, Outcome.refused, Order.first}
-use Rattle.octets.specs.{Bits.bits, Bits.find, Little.number, Part.ends}
+use Rattle.std.specs.Prelude.{ℕ, ◌+◌, ◌*◌, ◌^◌, Bool, List, [], ◌∷◌, ltb, Result}
+use Rattle.octets.specs.declared.{Refusal.Refusal, Refusal.TheVariants.Ended}
+use Rattle.octets.specs.{Bits.bits, Bits.find, Little.number, Part.ends, Outcome.answered}
 use Rattle.security_control.specs.declared.{KeyIdentifierMode.KeyIdentifierMode, SecurityControl.SecurityControl}
-use Rattle.security_control.specs.declared.{SecurityControlRead.SecurityControlRead}
 use Rattle.security_control.specs.declared.KeyIdentifierMode.TheVariants.{None, KeyIndex, KeySource4, KeySource8}
-use Rattle.security_control.specs.declared.SecurityControlRead.TheVariants.{Read, Ended}
 
 -- the mode of two bits
 unfoldable pub key_mode_of : ℕ → KeyIdentifierMode
@@ -34,9 +32,5 @@ abbrev pub level_too_large : SecurityControl → Bool
 level_too_large c = ltb 7 c.security_level
 
 -- the control at a place
-unfoldable pub read_security_control : List ℕ → ℕ → SecurityControlRead
-read_security_control s at = first ((ends s at 1, Ended) ∷ []) (Read (security_control_in (number s at 1)))
-
-abbrev pub security_control_outcome : SecurityControlRead → Outcome
-security_control_outcome (Read c) = accepted 1
-security_control_outcome Ended = refused 1
+unfoldable pub read_security_control : List ℕ → ℕ → Result SecurityControl Refusal
+read_security_control s at = answered ((ends s at 1, Ended) ∷ []) (security_control_in (number s at 1))

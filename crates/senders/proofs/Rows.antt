@@ -1,7 +1,7 @@
 -- Laws of the table's rows: which row is a sender's, that counts which can go on do so in each row, and the ways in which a frame is
 -- heard.
 -- Assumes nothing.
-use Rattle.std.proofs.Common.{◌≡◌, ℕ, zero, suc, ◌+◌, ◌-◌, ◌<◌, ◌≤◌, Bool, true, false, eqb, ltb, leb, List, [], ◌∷◌, ◌++◌, length, sym, refl, ap, ◌∙◌, subst, add-one, arith, length-append, ltb-false, ltb-true, le-ltb, lt-ltb, eq-eqb, eqb-true, le-leb, leb-true}
+use Rattle.std.proofs.Common.{◌≡◌, ℕ, zero, suc, ◌+◌, ◌-◌, ◌<◌, ◌≤◌, true, false, Option, Some, None, eqb, ltb, leb, List, [], ◌∷◌, ◌++◌, length, sym, refl, ap, ◌∙◌, subst, add-one, arith, length-append, ltb-false, ltb-true, le-ltb, lt-ltb, eq-eqb, eqb-true, le-leb, leb-true}
 use mathlib.Core.Bool.{and-false}
 use Rattle.octets.proofs.Cases.{cases, holds?, both}
 use Rattle.senders.specs.declared.Sender.{Sender}
@@ -9,11 +9,7 @@ use Rattle.senders.specs.declared.Counted.{Counted}
 use Rattle.senders.specs.Sender.{same}
 use Rattle.senders.specs.Hearing.{senders_most, first_heard, heard_again, place_of, Countable, can_go_on, AllCountable}
 use Rattle.senders.specs.Table.{table_length, counted_at, counted_in, row_set, row_of, fits, row_in, goes_on, is_new}
-use Rattle.senders.specs.Table.{table_after, rows_after, counts}
-
--- of senders with one address in one PAN, the length of the address tells
-pub same_octets : (a b : Sender) → a.address ≡ b.address → a.pan_id ≡ b.pan_id → eqb a.octets b.octets ≡ same a b
-same_octets a b e f = simp (eq-eqb _ _ e, eq-eqb _ _ f)
+use Rattle.senders.specs.Table.{table_after, rows_after, counts, rows_heard}
 
 -- as many as there are rows
 pub rows_length : (t : List ℕ) (n : ℕ) → length (counted_in t n) ≡ n
@@ -113,21 +109,6 @@ goes_on_lem c h =
       missing = ltb-true c.missing 256000000 x.1;
     }
 
-module _ (c : Counted) where
-  pub last_large : 255 < c.last → false ≡ can_go_on c
-  last_large h = let e : ltb c.last 256 ≡ false = le-ltb c.last 256 (omega arith) in simp e
-
-  pub frames_many : 1000000 ≤ c.frames → false ≡ can_go_on c
-  frames_many h = simp (le-ltb c.frames 1000000 h, and-false)
-
-  pub repeats_many : 1000000 ≤ c.repeats → false ≡ can_go_on c
-  repeats_many h = simp (le-ltb c.repeats 1000000 h, and-false)
-
-  pub missing_tells : c.last ≤ 255 → c.frames < 1000000 → c.repeats < 1000000 → ltb c.missing 256000000 ≡ can_go_on c
-  missing_tells h k l =
-      let e : ltb c.last 256 ≡ true = lt-ltb c.last 256 (omega arith) in
-      simp (e, lt-ltb c.frames 1000000 k, lt-ltb c.repeats 1000000 l)
-
 pub can_go : (c : Counted) → Countable c → can_go_on c ≡ true
 can_go c h =
     simp (
@@ -139,14 +120,14 @@ can_go c h =
 
 -- the ways in which a frame is heard, as the code finds them
 module _ (t : List ℕ) (n : ℕ) (who : Sender) (number : ℕ) where
-  abbrev HeardSo : List ℕ → ℕ → Bool → Type 0
-  HeardSo u m b = (u ≡ table_after t n who number) × ((m ≡ rows_after t n who) × (b ≡ counts t n who))
+  abbrev HeardSo : List ℕ → Option ℕ → Type 0
+  HeardSo u r = (u ≡ table_after t n who number) × (r ≡ rows_heard t n who)
 
-  not_heard : goes_on t n who ≡ false → is_new t n who ≡ false → HeardSo t n false
-  unfolding table_after rows_after counts
-  not_heard e f = (simp (e, f), (simp f, simp (e, f)))
+  not_heard : goes_on t n who ≡ false → is_new t n who ≡ false → HeardSo t None
+  unfolding table_after rows_heard counts
+  not_heard e f = (simp (e, f), simp (e, f))
 
-  pub heard_unfit : fits t n ≡ false → HeardSo t n false
+  pub heard_unfit : fits t n ≡ false → HeardSo t None
   unfolding goes_on is_new
   heard_unfit e = not_heard (simp e) (simp e)
 
@@ -166,26 +147,26 @@ module _ (t : List ℕ) (n : ℕ) (who : Sender) (number : ℕ) where
     old h = rw (found h) (simp and-false)
 
     pub heard_known : (c d : Counted) (u : List ℕ) → fits t n ≡ true → i < n → c ≡ counted_at t i → can_go_on c ≡ true →
-        d ≡ heard_again c number → u ≡ row_set t i d → HeardSo u n true
-    unfolding table_after rows_after counts
+        d ≡ heard_again c number → u ≡ row_set t i d → HeardSo u (Some n)
+    unfolding table_after rows_after rows_heard counts
     heard_known c d u f h k o x g =
         let w : can_go_on (counted_at t (row_of t n who)) ≡ true = sym (ap can_go_on (k ∙ ap (counted_at t) e)) ∙ o in
         let y = going f h w in
         let z = old h in
-        (rw (g, x, k, e) (simp y), (simp z, simp y))
+        (rw (g, x, k, e) (simp y), simp (y, z))
 
-    pub heard_stuck : (c : Counted) → i < n → c ≡ counted_at t i → can_go_on c ≡ false → HeardSo t n false
+    pub heard_stuck : (c : Counted) → i < n → c ≡ counted_at t i → can_go_on c ≡ false → HeardSo t None
     unfolding goes_on
     heard_stuck c h k o =
         let w : can_go_on (counted_at t (row_of t n who)) ≡ false = sym (ap can_go_on (k ∙ ap (counted_at t) e)) ∙ o in
         not_heard (rw w (simp and-false)) (old h)
 
-    pub heard_new : (u : List ℕ) → fits t n ≡ true → n ≤ i → n < senders_most → u ≡ row_set t n (first_heard who number) → HeardSo u (n + 1) true
-    unfolding table_after rows_after counts goes_on is_new
+    pub heard_new : (u : List ℕ) → fits t n ≡ true → n ≤ i → n < senders_most → u ≡ row_set t n (first_heard who number) → HeardSo u (Some (n + 1))
+    unfolding table_after rows_after rows_heard counts goes_on is_new
     heard_new u f h l g =
         let m : ltb n 64 ≡ true = lt-ltb n 64 l in
-        (rw (f, none h) (simp m g), (rw (f, none h) (simp m), rw (f, none h) (simp m)))
+        (rw (f, none h) (simp m g), rw (f, none h) (simp m))
 
-    pub heard_full : n ≤ i → senders_most ≤ n → HeardSo t n false
+    pub heard_full : n ≤ i → senders_most ≤ n → HeardSo t None
     unfolding goes_on is_new
     heard_full h l = not_heard (rw (none h) (simp and-false)) (rw (le-ltb n 64 l) (simp and-false))

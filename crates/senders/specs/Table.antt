@@ -1,5 +1,5 @@
 -- Counts of senders in a table of numbers, a row of seven for each of at most sixty-four.
-use Rattle.std.specs.Prelude.{ℕ, zero, suc, ◌+◌, ◌*◌, Bool, cond, not, ◌||◌, ◌&&◌, List, [], ◌∷◌, ◌++◌, ltb, leb, eqb}
+use Rattle.std.specs.Prelude.{ℕ, zero, suc, ◌+◌, ◌*◌, Bool, cond, not, ◌||◌, ◌&&◌, Option, Some, None, List, [], ◌∷◌, ◌++◌, ltb, leb, eqb}
 use Rattle.std.specs.Prelude.{length, get_or, set}
 use Rattle.octets.specs.{Order.first}
 use Rattle.senders.specs.{declared.Sender.Sender, declared.Counted.Counted}
@@ -71,3 +71,7 @@ rows_after t n who = cond (is_new t n who) (n + 1) n
 
 unfoldable pub counts : List ℕ → ℕ → Sender → Bool
 counts t n who = goes_on t n who || is_new t n who
+
+-- how many rows are in use behind a frame that was counted
+unfoldable pub rows_heard : List ℕ → ℕ → Sender → Option ℕ
+rows_heard t n who = cond (counts t n who) (Some (rows_after t n who)) None

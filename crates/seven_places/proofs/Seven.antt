@@ -1,18 +1,19 @@
 -- Laws of arrays of seven.
 -- Assumes nothing.
-use Prim.Native.Nat.{ℕ, zero, suc, ◌+◌, ◌*◌, ◌≤◌, ◌<◌}
-use native.Mathlib.Nat.{mul-zero, mul-suc, mul-add}
+use Prim.Native.Nat.{ℕ, zero, suc, ◌+◌, ◌-◌, ◌*◌, ◌≤◌, ◌<◌, min}
+use native.Mathlib.Nat.{mul-zero, mul-suc}
 use native.Mathlib.Numerals.{add-one}
 use native.Mathlib.Omega.{arith}
-use mathlib.Core.Bool.{Bool, true, false, cond}
+use mathlib.Core.Bool.{Bool, false, cond, ◌||◌}
 use mathlib.Core.List.{List, [], ◌∷◌, ◌++◌, map, flat_map}
-use mathlib.Core.Path.{◌≡◌, refl, sym, ◌∙◌}
+use mathlib.Core.Path.{◌≡◌, refl, sym, ap, ◌∙◌}
 use borrow.Author.Tests.{lt-ltb, ltb-true}
 use lib.Dec.{ltb}
-use lib.ListN.{length, get_or, set, take, drop, replicate, drop_of_length-le, length-append, length-take}
+use lib.ListN.{length, get_or, set, replicate, take, drop, drop_of_length-le, length-append, length-take}
 use lib.Seq.{length-take-le, drop-cons, get_or-take}
+use Rattle.std.specs.List.{list_any}
 use Rattle.octets.specs.Buffer.{laid}
-use Rattle.octets.proofs.Buffer.{laid_join, laid_none}
+use Rattle.octets.proofs.Buffer.{laid_none, stored_on}
 use Rattle.octets.proofs.Cases.{cases, holds?, neither}
 use Rattle.seven_places.specs.Seven.{seven, emptied, some}
 
@@ -20,10 +21,6 @@ module _ {A : Type 0} where
   pub seven_none : (entry : ℕ → A) (empty : A) → seven entry empty 0 ≡ replicate 7 empty
   unfolding seven
   seven_none entry empty = refl
-
-  pub seven_length : (entry : ℕ → A) (empty : A) (n : ℕ) → length (seven entry empty n) ≡ 7
-  unfolding seven
-  seven_length entry empty n = refl
 
   -- one more entry
   pub seven_more : (entry : ℕ → A) (empty : A) (k : ℕ) → k < 7 → set (seven entry empty k) k (entry k) ≡ seven entry empty (k + 1)
@@ -36,6 +33,10 @@ module _ {A : Type 0} where
   seven_more entry empty (suc (suc (suc (suc (suc zero))))) h = refl
   seven_more entry empty (suc (suc (suc (suc (suc (suc zero)))))) h = refl
   seven_more entry empty (suc (suc (suc (suc (suc (suc (suc k))))))) h = absurd (omega arith)
+
+  pub seven_length : (entry : ℕ → A) (empty : A) (n : ℕ) → length (seven entry empty n) ≡ 7
+  unfolding seven
+  seven_length entry empty n = refl
 
   -- equal where the entries in use are
   picked : (f g : ℕ → A) (empty : A) (n : ℕ) → ((k : ℕ) → k < n → f k ≡ g k) → (k : ℕ) →
@@ -122,20 +123,11 @@ module _ {A : Type 0} where
   pub rest_none : (l : List A) (n i : ℕ) → n ≤ i → drop i (take n l) ≡ []
   rest_none l n i h = drop_of_length-le (take n l) {i = i} (rw length-take (omega arith))
 
-  -- a test of the first n entries, entry by entry
-  module _ (test : A → Bool) (l : List A) (n i : ℕ) where
-    pub some_none : n ≤ i → some test (drop i (take n l)) ≡ false
-    unfolding some
-    some_none h = rw (rest_none l n i h)
-
-    module _ (d : A) (k : n ≤ length l) (h : i < n) where
-      pub some_found : test (get_or l i d) ≡ true → some test (drop i (take n l)) ≡ true
-      unfolding some
-      some_found e = rw (rest_next l n i d k h, e)
-
-      pub some_passed : test (get_or l i d) ≡ false → some test (drop (i + 1) (take n l)) ≡ some test (drop i (take n l))
-      unfolding some
-      some_passed e = rw (rest_next l n i d k h, e)
+  -- a test of some entry, in the library's word
+  pub some_any : (test : A → Bool) (l : List A) → some test l ≡ list_any test l
+  unfolding some
+  some_any test [] = refl
+  some_any test (x ∷ l) = ap (λ (b : Bool). test x || b) (some_any test l)
 
   -- where it holds of none, it holds of no entry
   fails_each : (test : A → Bool) (l : List A) (i : ℕ) (d : A) → some test l ≡ false → i < length l → test (get_or l i d) ≡ false
@@ -154,24 +146,56 @@ module _ {A : Type 0} where
   span_fails test entry f i zero = refl
   span_fails test entry f i (suc m) = rw (f i, span_fails test entry f (i + 1) m)
 
-  -- a store of the first n entries side by side, each of w bytes, entry by entry
-  module _ (bytes : A → List ℕ) (w : ℕ) (l : List A) (n i : ℕ) where
-    pub put_next : (d : A) (out : List ℕ) {next : List ℕ} (at : ℕ) → n ≤ length l → i < n → length (bytes (get_or l i d)) ≡ w →
-        next ≡ laid out (at + w * i) (bytes (get_or l i d)) →
-        laid next (at + w * (i + 1)) (flat_map bytes (drop (i + 1) (take n l))) ≡ laid out (at + w * i) (flat_map bytes (drop i (take n l)))
-    unfolding flat_map
-    put_next d out at k h long stored =
-        let more : at + w * (i + 1) ≡ at + w * i + w = rw mul-add (omega arith) in
-        rw (rest_next l n i d k h, stored) (laid_join out (at + w * i) (at + w * (i + 1)) w (bytes (get_or l i d)) _ long more)
+  -- entries side by side, each of w bytes
+  module _ (bytes : A → List ℕ) (w : ℕ) where
+    -- the place behind them, or behind what has room of them
+    abbrev pub behind : List A → List ℕ → ℕ → ℕ
+    behind l out at = at + min (w * length l) (length out - at)
 
-    pub put_done : (out : List ℕ) (p : ℕ) → n ≤ i → laid out p (flat_map bytes (drop i (take n l))) ≡ out
+    -- stored from one place on as from another: the same buffer, and the same place behind
+    abbrev pub SameStore : List A → List ℕ → ℕ → List A → List ℕ → ℕ → Type 0
+    SameStore l out at k from place = (behind l out at ≡ behind k from place) × (laid out at (flat_map bytes l) ≡ laid from place (flat_map bytes k))
+
+    -- the first stored, what is left is stored behind it
+    put_next : (x : A) (l : List A) (out : List ℕ) (at : ℕ) {next : ℕ} {stored : List ℕ} → length (bytes x) ≡ w →
+        next ≡ at + min w (length out - at) → stored ≡ laid out at (bytes x) →
+        SameStore l stored next (x ∷ l) out at
     unfolding flat_map
-    put_done out p h = rw (rest_none l n i h) (laid_none out p)
+    put_next x l out at long e f =
+        let two = stored_on out at (bytes x) w (flat_map bytes l) (w * length l) long (e, f) (refl, refl) in
+        (two.0 ∙ rw mul-suc (omega arith), two.1)
+
+    pub put_more : (x : A) (l : List A) (out : List ℕ) (at : ℕ) {left : List A} {next : ℕ} {stored : List ℕ} (all : List A) (from : List ℕ)
+        (place : ℕ) → left ≡ x ∷ l → length (bytes x) ≡ w → next ≡ at + min w (length out - at) → stored ≡ laid out at (bytes x) →
+        SameStore left out at all from place → SameStore l stored next all from place
+    put_more x l out at all from place first long e f same =
+        let here = put_next x l out at long e f in
+        let rest = rw first at same in
+        (here.0 ∙ rest.0, here.1 ∙ rest.1)
+
+    -- nothing left, all is stored
+    pub put_done : (out : List ℕ) (at : ℕ) {left : List A} (all : List A) (from : List ℕ) (place : ℕ) → left ≡ [] →
+        SameStore left out at all from place → (at ≡ behind all from place) × (out ≡ laid from place (flat_map bytes all))
+    unfolding flat_map
+    put_done out at all from place none same =
+        let rest = rw none at same in
+        (omega (arith, rest.0, mul-zero w), sym (laid_none out at) ∙ rest.1)
+
+  -- the first n of a list with one entry before the others, and of one with none left
+  pub taken_next : {l : List A} {n : ℕ} (x : A) (m : List A) (k : ℕ) → l ≡ x ∷ m → k + 1 ≡ n → take n l ≡ x ∷ take k m
+  taken_next x m k e f = rw (e, sym f, add-one k)
+
+  pub taken_none : (l : List A) (n : ℕ) → (0 < n → length l ≡ 0) → take n l ≡ []
+  taken_none l zero h = refl
+  taken_none [] (suc n) h = refl
+  taken_none (x ∷ l) (suc n) h = absurd (omega (arith, h (omega arith)))
+
+  -- how many bytes entries of w bytes take
+  pub all_length : (bytes : A → List ℕ) (w : ℕ) → ((x : A) → length (bytes x) ≡ w) → (l : List A) → length (flat_map bytes l) ≡ w * length l
+  unfolding flat_map
+  all_length bytes w long [] = sym (mul-zero w)
+  all_length bytes w long (x ∷ l) = rw (length-append, long x, all_length bytes w long l, mul-suc) (omega arith)
 
   pub each_length : (bytes : A → List ℕ) (w : ℕ) → ((x : A) → length (bytes x) ≡ w) → (l : List A) (n : ℕ) → n ≤ length l →
       length (flat_map bytes (take n l)) ≡ w * n
-  unfolding flat_map
-  each_length bytes w long l zero h = sym (mul-zero w)
-  each_length bytes w long [] (suc n) h = absurd (omega arith)
-  each_length bytes w long (x ∷ l) (suc n) h =
-      rw (length-append, long x, each_length bytes w long l n (omega arith), mul-suc) (omega arith)
+  each_length bytes w long l n h = all_length bytes w long (take n l) ∙ ap (λ (m : ℕ). w * m) (length-take-le n l h)

@@ -7,7 +7,6 @@ use mathlib.Core.List.{List}
 use mathlib.Core.Path.{◌≡◌}
 use borrow.Author.Tests.{ltb-false}
 use lib.ListN.{length, length-append}
-use Rattle.octets.specs.Outcome.{accepted}
 use Rattle.octets.specs.Part.{ends}
 use Rattle.octets.proofs.Little.{split_length}
 use Rattle.octets.proofs.Cases.{cases, holds?, neither}
@@ -15,6 +14,8 @@ use Rattle.superframe.specs.declared.SuperframeSpecification.{SuperframeSpecific
 use Rattle.superframe.specs.Orders.{beacon_order_bits, beacon_order_too_large, superframe_order_bits, superframe_order_too_large}
 use Rattle.superframe.specs.Superframe.{superframe_in, read_superframe, orders_byte, superframe_bytes, superframe_too_large}
 use Rattle.superframe.proofs.Orders.{beacon_order_small, superframe_order_small}
+use Rattle.std.specs.Prelude.{Ok}
+use Rattle.octets.specs.Outcome.{number_of}
 
 pub superframe_length : (x : SuperframeSpecification) → length (superframe_bytes x) ≡ 2
 unfolding superframe_bytes
@@ -42,8 +43,8 @@ fitting x e =
     }
 
 -- what is read was there
-pub superframe_read : (s : List ℕ) (at : ℕ) → (read_superframe s at).outcome.number ≡ 0 →
-    (read_superframe s at ≡ record { outcome = accepted 2; superframe_spec = superframe_in s at }) × (2 ≤ length s - at)
+pub superframe_read : (s : List ℕ) (at : ℕ) → number_of (read_superframe s at).outcome ≡ 0 →
+    (read_superframe s at ≡ record { outcome = Ok 2; superframe_spec = superframe_in s at }) × (2 ≤ length s - at)
 unfolding read_superframe
 superframe_read s at e =
     cases (holds? (ends s at 2)) (λ t. absurd (omega (arith, simp t at e))) (λ t. (simp t, ltb-false _ _ t))

@@ -1,12 +1,11 @@
 -- The superframe specification, document 01, "Beacon layout" (IEEE 802.15.4-2011, 5.2.2.1.2). Byte 0: beacon order (low
 -- half), superframe order (high half). Byte 1: final slot bits 0-3, battery extension 4, bit 5 not read, coordinator 6,
 -- association permit 7.
-use Rattle.std.specs.Prelude.{ℕ, ◌+◌, ◌*◌, ◌^◌, Bool, false, ◌||◌, List, [], ◌∷◌, ◌++◌, ltb}
-use Rattle.octets.specs.declared.{ValueWritten.ValueWritten}
+use Rattle.std.specs.Prelude.{ℕ, ◌+◌, ◌*◌, ◌^◌, Bool, false, ◌||◌, List, [], ◌∷◌, ◌++◌, ltb, Ok, Err}
 use Rattle.octets.specs.Bits.{bits, bit, bit_of}
 use Rattle.octets.specs.Little.{number, split}
-use Rattle.octets.specs.{Order.first, Part.ends, Value.write_value}
-use Rattle.octets.specs.Outcome.{accepted, refused}
+use Rattle.octets.specs.declared.Refusal.TheVariants.{Ended}
+use Rattle.octets.specs.{Order.first, Part.ends, Value.write_value, Outcome.Outcome}
 use Rattle.superframe.specs.declared.{SuperframeSpecification.SuperframeSpecification}
 use Rattle.superframe.specs.declared.{SuperframeRead.SuperframeRead}
 use Rattle.superframe.specs.Orders.{beacon_order_of, beacon_order_bits, beacon_order_too_large, superframe_order_of}
@@ -44,8 +43,8 @@ superframe_in s at = superframe_of (number s at 1) (number s (at + 1) 1)
 -- and what reading it there answers
 unfoldable pub read_superframe : List ℕ → ℕ → SuperframeRead
 read_superframe s at =
-    first ((ends s at 2, record { outcome = refused 1; superframe_spec = empty_superframe }) ∷ [])
-    (record { outcome = accepted 2; superframe_spec = superframe_in s at })
+    first ((ends s at 2, record { outcome = Err Ended; superframe_spec = empty_superframe }) ∷ [])
+    (record { outcome = Ok 2; superframe_spec = superframe_in s at })
 
 -- the two bytes, bit 5 of the second clear
 abbrev pub orders_byte : SuperframeSpecification → ℕ
@@ -68,5 +67,5 @@ superframe_too_large x =
     || superframe_order_too_large x.superframe_order
     || ltb 15 x.final_cap_slot
 
-unfoldable pub write_superframe : SuperframeSpecification → List ℕ → ℕ → ValueWritten
+unfoldable pub write_superframe : SuperframeSpecification → List ℕ → ℕ → Outcome
 write_superframe x out at = write_value (superframe_too_large x) out at 2

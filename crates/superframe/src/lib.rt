@@ -5,43 +5,46 @@
 
 ghost use Rattle.std.specs.Prelude.{◌+◌, ◌-◌, ◌≤◌, false, ◌≡◌, length};
 ghost use Rattle.octets.specs.Buffer.{laid, after};
-ghost use Rattle.octets.specs.Value.{value_outcome};
 ghost use Rattle.superframe.specs.Orders.{beacon_order_of, beacon_order_bits, beacon_order_too_large, superframe_order_of};
 ghost use Rattle.superframe.specs.Orders.{superframe_order_bits, superframe_order_too_large};
 ghost use Rattle.superframe.specs.Superframe.{empty_superframe, superframe_in, read_superframe, orders_byte};
 ghost use Rattle.superframe.specs.Superframe.{rest_byte, superframe_bytes, superframe_too_large, write_superframe};
 
-use octets::{Outcome, ValueWritten, bit_of, left, put, u8_at};
+use octets::{Outcome, Refusal, left, put, u8_at};
 
-// How often beacons are sent.
-#[derive(Clone, Copy)]
+// How often beacons are sent. It and `SuperframeOrder` stay two enums, as in the Rust crate: one for both would lose
+// the names of the two cases, and be no shorter.
+#[derive(Clone, Copy, Debug, PartialEq, Eq)]
 pub enum BeaconOrder {
     BeaconOrder(u8),
     OnDemand,
 }
 
-impl BeaconOrder {
-    // Any byte is taken: 15 and what is above it are OnDemand.
-    pub fn from(value: u8) -> Self
-        ensures { result ≡ beacon_order_of value }
-    {
-        if value < 15 {
-            BeaconOrder::BeaconOrder(value)
-        } else {
-            BeaconOrder::OnDemand
+// Any byte is taken: 15 and what is above it are OnDemand.
+impl From<u8> for BeaconOrder {
+    ghost from_gives = { λ value order. order ≡ beacon_order_of value };
+
+    fn from(value: u8) -> Self {
+        match value {
+            0..=14 => BeaconOrder::BeaconOrder(value),
+            _ => BeaconOrder::OnDemand,
         }
     }
+}
 
-    // The number that stands for it, 15 for OnDemand.
-    pub fn to_u8(self) -> u8
-        ensures { result ≡ beacon_order_bits self }
-    {
-        match self {
+// The number that stands for it, 15 for OnDemand.
+impl From<BeaconOrder> for u8 {
+    ghost from_gives = { λ order value. value ≡ beacon_order_bits order };
+
+    fn from(order: BeaconOrder) -> u8 {
+        match order {
             BeaconOrder::BeaconOrder(value) => value,
             BeaconOrder::OnDemand => 15,
         }
     }
+}
 
+impl BeaconOrder {
     // A numbered order above 14: refusal 8.
     fn too_large(self) -> bool
         ensures { result ≡ beacon_order_too_large self }
@@ -54,34 +57,37 @@ impl BeaconOrder {
 }
 
 // How long the active part of a superframe is.
-#[derive(Clone, Copy)]
+#[derive(Clone, Copy, Debug, PartialEq, Eq)]
 pub enum SuperframeOrder {
     SuperframeOrder(u8),
     Inactive,
 }
 
-impl SuperframeOrder {
-    // Any byte is taken: 15 and what is above it are Inactive.
-    pub fn from(value: u8) -> Self
-        ensures { result ≡ superframe_order_of value }
-    {
-        if value < 15 {
-            SuperframeOrder::SuperframeOrder(value)
-        } else {
-            SuperframeOrder::Inactive
+// Any byte is taken: 15 and what is above it are Inactive.
+impl From<u8> for SuperframeOrder {
+    ghost from_gives = { λ value order. order ≡ superframe_order_of value };
+
+    fn from(value: u8) -> Self {
+        match value {
+            0..=14 => SuperframeOrder::SuperframeOrder(value),
+            _ => SuperframeOrder::Inactive,
         }
     }
+}
 
-    // The number that stands for it, 15 for Inactive.
-    pub fn to_u8(self) -> u8
-        ensures { result ≡ superframe_order_bits self }
-    {
-        match self {
+// The number that stands for it, 15 for Inactive.
+impl From<SuperframeOrder> for u8 {
+    ghost from_gives = { λ order value. value ≡ superframe_order_bits order };
+
+    fn from(order: SuperframeOrder) -> u8 {
+        match order {
             SuperframeOrder::SuperframeOrder(value) => value,
             SuperframeOrder::Inactive => 15,
         }
     }
+}
 
+impl SuperframeOrder {
     // A numbered order above 14: refusal 8.
     fn too_large(self) -> bool
         ensures { result ≡ superframe_order_too_large self }
@@ -94,7 +100,7 @@ impl SuperframeOrder {
 }
 
 // The two bytes' fields.
-#[derive(Clone, Copy)]
+#[derive(Clone, Copy, Debug, PartialEq, Eq)]
 pub struct SuperframeSpecification {
     pub beacon_order: BeaconOrder,
     pub superframe_order: SuperframeOrder,
@@ -107,8 +113,8 @@ pub struct SuperframeSpecification {
     pub association_permit: bool,
 }
 
-// What reading a superframe specification answers; refused, with the empty one.
-#[derive(Clone, Copy)]
+// What reading a superframe specification answers; refused, with the empty one, which a Result would not hand out.
+#[derive(Clone, Copy, Debug, PartialEq, Eq)]
 pub struct SuperframeRead {
     pub outcome: Outcome,
     pub superframe_spec: SuperframeSpecification,
@@ -130,6 +136,7 @@ impl SuperframeSpecification {
     }
 
     // The specification in two bytes. Asks that they are there.
+    #[tactic(auto, unfolding(crate::specs::Superframe::superframe_in))]
     fn at(s: &[u8], at: usize) -> Self
         requires { at + 2 ≤ length s.now }
         ensures { result ≡ superframe_in s.now at }
@@ -147,44 +154,38 @@ impl SuperframeSpecification {
     }
 
     // Reads the two bytes at a place: refusal 1 where they are not there.
+    #[tactic(auto, unfolding(crate::specs::Superframe::read_superframe))]
     pub fn read(s: &[u8], at: usize) -> SuperframeRead
         ensures { result ≡ read_superframe s.now at }
     {
         if left(s, at) < 2 {
             return SuperframeRead {
-                outcome: Outcome::refused(1),
+                outcome: Err(Refusal::Ended),
                 superframe_spec: SuperframeSpecification::new(),
             };
         }
         SuperframeRead {
-            outcome: Outcome::accepted(2),
+            outcome: Ok(2),
             superframe_spec: SuperframeSpecification::at(s, at),
         }
     }
 
     // An order above 14 in its numbered case or a slot above 15: refusal 8.
+    #[tactic(auto, unfolding(crate::specs::Superframe::superframe_too_large))]
     pub fn too_large(self) -> bool
         ensures { result ≡ superframe_too_large self }
     {
-        let beacon_order = self.beacon_order;
-        let superframe_order = self.superframe_order;
-        if beacon_order.too_large() {
-            return true;
-        }
-        if superframe_order.too_large() {
-            return true;
-        }
-        15 < self.final_cap_slot
+        self.beacon_order.too_large()
+            || self.superframe_order.too_large()
+            || 15 < self.final_cap_slot
     }
 
-    // Byte 0. Asks that no number is too large.
+    // Byte 0. Asks that no number is too large, as byte 1 and `put` do: a type for that would have the same six fields.
     fn orders(self) -> u8
         requires { superframe_too_large self ≡ false }
         ensures { result ≡ orders_byte self }
     {
-        let beacon_order = self.beacon_order;
-        let superframe_order = self.superframe_order;
-        beacon_order.to_u8() + 16 * superframe_order.to_u8()
+        u8::from(self.beacon_order) + 16 * u8::from(self.superframe_order)
     }
 
     // Byte 1. Asks that no number is too large.
@@ -193,9 +194,9 @@ impl SuperframeSpecification {
         ensures { result ≡ rest_byte self }
     {
         self.final_cap_slot
-            + 16 * bit_of(self.battery_life_extension)
-            + 64 * bit_of(self.pan_coordinator)
-            + 128 * bit_of(self.association_permit)
+            + 16 * u8::from(self.battery_life_extension)
+            + 64 * u8::from(self.pan_coordinator)
+            + 128 * u8::from(self.association_permit)
     }
 
     // Stores the two bytes. Asks that no number is too large.
@@ -209,18 +210,20 @@ impl SuperframeSpecification {
         put(rest as u64, 1, out, next);
     }
 
-    // Writes the two bytes at a place; refused, out keeps every byte.
-    pub fn write(self, out: &mut [u8], at: usize) -> ValueWritten
+    // Writes the two bytes at a place; refused, out keeps every byte. The records of a beacon have five such writers:
+    // one trait for them would name for each its test, its size, its bytes and its store, and be no shorter.
+    #[tactic(auto, unfolding(crate::specs::Superframe::write_superframe))]
+    pub fn write(self, out: &mut [u8], at: usize) -> Outcome
         ensures value { result ≡ write_superframe self out.old at }
-        ensures out_after { out.new ≡ after (value_outcome result) out.old at (superframe_bytes self) }
+        ensures out_after { out.new ≡ after result out.old at (superframe_bytes self) }
     {
         if self.too_large() {
-            return ValueWritten::TooLarge;
+            return Err(Refusal::TooLarge);
         }
         if left(out, at) < 2 {
-            return ValueWritten::Full;
+            return Err(Refusal::Ended);
         }
         self.put(out, at);
-        ValueWritten::Written(2)
+        Ok(2)
     }
 }

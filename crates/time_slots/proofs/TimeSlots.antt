@@ -7,40 +7,32 @@ use mathlib.Core.Bool.{false, cond}
 use mathlib.Core.List.{List, [], ◌∷◌, ◌++◌, flat_map}
 use mathlib.Core.Path.{◌≡◌, refl, ap}
 use borrow.Author.Tests.{ltb-false}
-use lib.ListN.{length, get_or, take, drop, length-append, length-take, length-drop}
+use lib.ListN.{length, take, length-append}
 use lib.Pow.{pow_mono}
+use Rattle.std.specs.List.{push}
 use Rattle.octets.specs.Little.{split}
-use Rattle.octets.specs.Outcome.{accepted}
 use Rattle.octets.specs.Part.{ends}
 use Rattle.octets.proofs.Cases.{cases, holds?, neither}
 use Rattle.octets.proofs.Little.{split_length}
 use Rattle.seven_places.specs.Seven.{some}
-use Rattle.seven_places.proofs.Seven.{rest_next, each_length}
+use Rattle.seven_places.proofs.Seven.{each_length}
 use Rattle.time_slots.specs.declared.Direction.{Direction}
 use Rattle.time_slots.specs.declared.Direction.TheVariants.{Receive, Transmit}
 use Rattle.time_slots.specs.declared.GuaranteedTimeSlotDescriptor.{GuaranteedTimeSlotDescriptor}
 use Rattle.time_slots.specs.Direction.{direction_bit}
 use Rattle.time_slots.specs.Descriptor.{descriptor_bytes, descriptor_too_large}
-use Rattle.time_slots.proofs.Descriptor.{descriptor_length}
+use Rattle.time_slots.specs.Width.{descriptor_length}
 use Rattle.time_slots.specs.declared.GuaranteedTimeSlotInformation.{GuaranteedTimeSlotInformation}
 use Rattle.time_slots.specs.TimeSlots.{slots_length, time_slots_in, time_slots_length_in, read_time_slots}
 use Rattle.time_slots.specs.TimeSlots.{directions_of, list_bytes, time_slots_header, time_slots_bytes, time_slots_size}
 use Rattle.time_slots.specs.TimeSlots.{slot_count_too_large, time_slots_too_large}
+use Rattle.std.specs.Prelude.{Ok}
+use Rattle.octets.specs.Outcome.{number_of}
 
 -- how many bytes slots take
 pub length_some : (n : ℕ) → (n ≡ 0 → ⊥) → slots_length n ≡ 1 + 3 * n
 length_some zero h = absurd (h refl)
 length_some (suc n) h = refl
-
--- one slot more before the others, the first in the lowest bit
-pub directions_more : (l : List GuaranteedTimeSlotDescriptor) (n i : ℕ) (d : GuaranteedTimeSlotDescriptor) {first rest : ℕ} → n ≤ length l →
-    i ≤ n → 0 < i →
-    first ≡ direction_bit (get_or l (i - 1) d).direction → rest ≡ directions_of (drop i (take n l)) →
-    first + 2 * rest ≡ directions_of (drop (i - 1) (take n l))
-unfolding directions_of
-directions_more l n i d k h p e f =
-    let back : i - 1 + 1 ≡ i = omega arith in
-    rw (rest_next l n (i - 1) d k (omega arith), back, e, f)
 
 pub direction_small : (d : Direction) → direction_bit d < 2
 direction_small Receive = omega arith
@@ -51,11 +43,19 @@ unfolding directions_of
 directions_small [] = omega arith
 directions_small (x ∷ l) = omega (arith, direction_small x.direction, directions_small l, pow-suc 2 (length l))
 
--- the directions that are left after at least one of at most seven are below 64
-pub directions_bound : (l : List GuaranteedTimeSlotDescriptor) (n i : ℕ) → n ≤ 7 → 0 < i → directions_of (drop i (take n l)) < 64
-directions_bound l n i h k =
-    let short : length (drop i (take n l)) ≤ 6 = rw (length-drop, length-take) (omega arith) in
-    omega (arith, directions_small (drop i (take n l)), pow_mono short)
+-- where none is left, those passed are all
+pub all_passed : (all left passed : List GuaranteedTimeSlotDescriptor) → length left ≡ 0 → all ≡ left ++ passed → all ≡ passed
+all_passed all [] passed h e = e
+all_passed all (x ∷ left) passed h e = absurd (omega (arith, h))
+
+-- the directions of at most seven slots but one are below 64
+pub directions_bound : (all left : List GuaranteedTimeSlotDescriptor) (x : GuaranteedTimeSlotDescriptor)
+    (front passed : List GuaranteedTimeSlotDescriptor) → length all ≤ 7 → all ≡ left ++ passed → left ≡ push front x →
+    directions_of passed < 64
+directions_bound all left x front passed few e f =
+    let short : length passed ≤ 6 =
+    omega (arith, ap length e, length-append left passed, ap length f, length-append front (x ∷ [])) in
+    omega (arith, directions_small passed, pow_mono short)
 
 -- what follows the header, for no slot and for some
 pub list_none : (l : List GuaranteedTimeSlotDescriptor) (n : ℕ) → n ≡ 0 → list_bytes (take n l) ≡ []
@@ -100,8 +100,8 @@ time_slots_length x full f =
     )
 
 -- what is read was there
-pub time_slots_read : (s : List ℕ) (at : ℕ) → (read_time_slots s at).outcome.number ≡ 0 →
-    (read_time_slots s at ≡ record { outcome = accepted (time_slots_length_in s at); guaranteed_time_slot_info = time_slots_in s at })
+pub time_slots_read : (s : List ℕ) (at : ℕ) → number_of (read_time_slots s at).outcome ≡ 0 →
+    (read_time_slots s at ≡ record { outcome = Ok (time_slots_length_in s at); guaranteed_time_slot_info = time_slots_in s at })
     × (time_slots_length_in s at ≤ length s - at)
 unfolding read_time_slots
 time_slots_read s at e =

@@ -1,16 +1,16 @@
 -- The descriptor of a guaranteed time slot, document 01, "Beacon layout" (IEEE 802.15.4-2011, 5.2.2.1.5): short address
 -- (2), start (low half), length (high half).
-use Rattle.std.specs.Prelude.{ℕ, ◌+◌, ◌*◌, ◌^◌, Bool, ◌||◌, List, [], ◌∷◌, ◌++◌, ltb}
-use Rattle.octets.specs.declared.{ValueWritten.ValueWritten}
+use Rattle.std.specs.Prelude.{ℕ, ◌+◌, ◌*◌, ◌^◌, Bool, ◌||◌, List, [], ◌∷◌, ◌++◌, ltb, Ok, Err}
 use Rattle.octets.specs.{Bits.bits, Order.first, Part.ends, Value.write_value}
 use Rattle.octets.specs.Little.{number, split}
-use Rattle.octets.specs.Outcome.{accepted, refused}
 use Rattle.identifiers.specs.declared.{ShortAddress.ShortAddress}
 use Rattle.identifiers.specs.ShortAddress.{short}
 use Rattle.time_slots.specs.declared.{Direction.Direction}
 use Rattle.time_slots.specs.declared.{GuaranteedTimeSlotDescriptor.GuaranteedTimeSlotDescriptor}
 use Rattle.time_slots.specs.declared.{DescriptorRead.DescriptorRead}
 use Rattle.time_slots.specs.declared.Direction.TheVariants.{Receive}
+use Rattle.octets.specs.Outcome.{Outcome}
+use Rattle.octets.specs.declared.Refusal.TheVariants.{Ended}
 
 abbrev pub descriptor_of : ShortAddress → ℕ → ℕ → Direction → GuaranteedTimeSlotDescriptor
 descriptor_of address start length direction =
@@ -29,8 +29,8 @@ descriptor_in s at direction =
 -- and what reading it there alone answers: Receive, as in an unused place
 unfoldable pub read_descriptor : List ℕ → ℕ → DescriptorRead
 read_descriptor s at =
-    first ((ends s at 3, record { outcome = refused 1; slot = empty_descriptor }) ∷ [])
-    (record { outcome = accepted 3; slot = descriptor_in s at Receive })
+    first ((ends s at 3, record { outcome = Err Ended; slot = empty_descriptor }) ∷ [])
+    (record { outcome = Ok 3; slot = descriptor_in s at Receive })
 
 -- the three bytes
 abbrev pub slot_byte : GuaranteedTimeSlotDescriptor → ℕ
@@ -43,5 +43,5 @@ descriptor_bytes x = split 2 x.short_address.0 ++ split 1 (slot_byte x)
 unfoldable pub descriptor_too_large : GuaranteedTimeSlotDescriptor → Bool
 descriptor_too_large x = ltb 15 x.starting_slot || ltb 15 x.length
 
-unfoldable pub write_descriptor : GuaranteedTimeSlotDescriptor → List ℕ → ℕ → ValueWritten
+unfoldable pub write_descriptor : GuaranteedTimeSlotDescriptor → List ℕ → ℕ → Outcome
 write_descriptor x out at = write_value (descriptor_too_large x) out at 3

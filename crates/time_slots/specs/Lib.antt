@@ -1,3 +1,4 @@
 pub mod Direction
 pub mod Descriptor
+pub mod Width
 pub mod TimeSlots

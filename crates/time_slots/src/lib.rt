@@ -4,46 +4,46 @@
 #![tactic(auto)]
 
 ghost use Rattle.std.specs.Prelude.{◌+◌, ◌-◌, ◌*◌, ◌≤◌, ◌<◌, false, cond, ◌≡◌, length, take};
-ghost use Rattle.octets.specs.Words.{flat_map};
 ghost use Rattle.octets.specs.Buffer.{laid, after};
-ghost use Rattle.octets.specs.Value.{value_outcome};
 ghost use Rattle.seven_places.specs.Seven.{some};
 ghost use Rattle.time_slots.specs.Direction.{direction_bit, direction_of};
 ghost use Rattle.time_slots.specs.Descriptor.{empty_descriptor, descriptor_in, read_descriptor};
 ghost use Rattle.time_slots.specs.Descriptor.{descriptor_bytes, descriptor_too_large, write_descriptor};
+ghost use Rattle.time_slots.specs.Width.{descriptor_length};
 ghost use Rattle.time_slots.specs.TimeSlots.{slots_length, slot_at, slots_in, empty_time_slots};
 ghost use Rattle.time_slots.specs.TimeSlots.{slots_of, time_slots_refused, read_time_slots, directions_of, list_bytes};
 ghost use Rattle.time_slots.specs.TimeSlots.{time_slots_header, time_slots_bytes, time_slots_size};
 ghost use Rattle.time_slots.specs.TimeSlots.{slot_count_too_large, time_slots_too_large, write_time_slots};
 
 use identifiers::ShortAddress;
-use octets::{Outcome, ValueWritten, bit_of, left, put, u8_at, u16_at};
+use octets::{Outcome, Refusal, left, put, u8_at, u16_at};
+use seven_places::{Entry, Listed};
 
 // Which way a slot is used by the device that it is for.
-#[derive(Clone, Copy)]
+#[derive(Clone, Copy, Debug, PartialEq, Eq)]
 pub enum Direction {
     Receive,
     Transmit,
 }
 
-impl Direction {
-    // The bit that stands for a direction: only here is it said which of the two a set bit means.
-    pub fn to_bit(self) -> u8
-        ensures value { result ≡ direction_bit self }
-        ensures upper_bound { result ≤ 1 }
-    {
-        match self {
+// The bit that stands for a direction: only here is it said which of the two a set bit means.
+impl From<Direction> for u8 {
+    ghost from_gives = { λ d r. (r ≡ direction_bit d) × (r ≤ 1) };
+
+    fn from(direction: Direction) -> Self {
+        match direction {
             Direction::Receive => 1,
             Direction::Transmit => 0,
         }
     }
+}
 
-    // The direction that a bit stands for.
-    pub fn from_bit(bit: u8) -> Self
-        ensures { result ≡ direction_of bit }
-    {
-        let transmit = Direction::Transmit;
-        if bit == transmit.to_bit() {
+// The direction that a bit stands for.
+impl From<u8> for Direction {
+    ghost from_gives = { λ b r. r ≡ direction_of b };
+
+    fn from(bit: u8) -> Self {
+        if bit == u8::from(Direction::Transmit) {
             Direction::Transmit
         } else {
             Direction::Receive
@@ -52,7 +52,7 @@ impl Direction {
 }
 
 // One slot of the list.
-#[derive(Clone, Copy)]
+#[derive(Clone, Copy, Debug, PartialEq, Eq)]
 pub struct GuaranteedTimeSlotDescriptor {
     // The device that the slot is for.
     pub short_address: ShortAddress,
@@ -62,8 +62,9 @@ pub struct GuaranteedTimeSlotDescriptor {
     pub direction: Direction,
 }
 
-// What reading a descriptor answers; refused, with the empty one.
-#[derive(Clone, Copy)]
+// What reading a descriptor answers; refused, with the empty one, which a Result would not hand out.
+// Each of the five answers of a beacon and its parts names what was read: one struct for all would lose that name.
+#[derive(Clone, Copy, Debug, PartialEq, Eq)]
 pub struct DescriptorRead {
     pub outcome: Outcome,
     pub slot: GuaranteedTimeSlotDescriptor,
@@ -99,17 +100,18 @@ impl GuaranteedTimeSlotDescriptor {
 
     // Reads the three bytes at a place: refusal 1 where they are not there. Read alone it is Receive, as in an unused
     // place: its bit stands in another byte.
+    #[tactic(auto, unfolding(crate::specs::Descriptor::read_descriptor))]
     pub fn read(s: &[u8], at: usize) -> DescriptorRead
         ensures { result ≡ read_descriptor s.now at }
     {
         if left(s, at) < 3 {
             return DescriptorRead {
-                outcome: Outcome::refused(1),
+                outcome: Err(Refusal::Ended),
                 slot: GuaranteedTimeSlotDescriptor::new(),
             };
         }
         DescriptorRead {
-            outcome: Outcome::accepted(3),
+            outcome: Ok(3),
             slot: GuaranteedTimeSlotDescriptor::at(s, at, Direction::Receive),
         }
     }
@@ -118,37 +120,39 @@ impl GuaranteedTimeSlotDescriptor {
     pub fn too_large(self) -> bool
         ensures { result ≡ descriptor_too_large self }
     {
-        if 15 < self.starting_slot {
-            true
-        } else {
-            15 < self.length
-        }
-    }
-
-    // Stores the three bytes. Asks that no number is too large.
-    fn put(self, out: &mut [u8], at: usize)
-        requires { descriptor_too_large self ≡ false }
-        ensures { out.new ≡ laid out.old at (descriptor_bytes self) }
-    {
-        let address = self.short_address.0;
-        let slot = self.starting_slot + 16 * self.length;
-        let next = put(address as u64, 2, out, at);
-        put(slot as u64, 1, out, next);
+        15 < self.starting_slot || 15 < self.length
     }
 
     // Writes the three bytes at a place; refused, out keeps every byte. The direction has no bit of its own here.
-    pub fn write(self, out: &mut [u8], at: usize) -> ValueWritten
+    #[tactic(auto, unfolding(crate::specs::Descriptor::write_descriptor))]
+    pub fn write(self, out: &mut [u8], at: usize) -> Outcome
         ensures value { result ≡ write_descriptor self out.old at }
-        ensures out_after { out.new ≡ after (value_outcome result) out.old at (descriptor_bytes self) }
+        ensures out_after { out.new ≡ after result out.old at (descriptor_bytes self) }
     {
         if self.too_large() {
-            return ValueWritten::TooLarge;
+            return Err(Refusal::TooLarge);
         }
         if left(out, at) < 3 {
-            return ValueWritten::Full;
+            return Err(Refusal::Ended);
         }
         self.put(out, at);
-        ValueWritten::Written(3)
+        Ok(3)
+    }
+}
+
+impl Entry for GuaranteedTimeSlotDescriptor {
+    const WIDTH: usize = 3;
+
+    ghost WIDTH = { 3 };
+
+    ghost bytes = { descriptor_bytes };
+
+    ghost width = { descriptor_length };
+
+    fn put(self, out: &mut [u8], at: usize) -> usize {
+        let slot = self.starting_slot as u64 + 16 * self.length as u64;
+        let next = self.short_address.put(out, at);
+        put(slot, 1, out, next)
     }
 }
 
@@ -166,7 +170,7 @@ fn slot_at(s: &[u8], at: usize, k: usize) -> GuaranteedTimeSlotDescriptor
     requires k_in_bounds { at + 1 + 3 * k + 3 ≤ length s.now }
     ensures { result ≡ slot_at s.now at k }
 {
-    let direction = Direction::from_bit((u8_at(s, at) >> k) % 2);
+    let direction = Direction::from((u8_at(s, at) >> k) % 2);
     GuaranteedTimeSlotDescriptor::at(s, at + 1 + 3 * k, direction)
 }
 
@@ -177,96 +181,62 @@ fn slots_at(s: &[u8], at: usize, n: usize) -> [GuaranteedTimeSlotDescriptor; 7]
     ensures { result ≡ slots_in s.now at n }
 {
     let mut slots = [GuaranteedTimeSlotDescriptor::new(); 7];
-    let mut k = 0;
-    while k < n {
+    for k in 0..n {
         slots[k] = slot_at(s, at, k);
-        k += 1;
     }
     slots
 }
 
-// Some of the first n slots has a number too large. Asks for at most seven.
-fn some_too_large(slots: [GuaranteedTimeSlotDescriptor; 7], n: usize) -> bool
-    requires { n ≤ 7 }
-    ensures { result ≡ some descriptor_too_large (take n slots) }
+// Some of the slots in use has a number too large.
+fn some_too_large(slots: Listed<GuaranteedTimeSlotDescriptor>) -> bool
+    ensures { result ≡ some descriptor_too_large (take slots.count slots.places) }
 {
-    let mut k = 0;
-    while k < n {
-        let slot = slots[k];
-        if slot.too_large() {
-            return true;
-        }
-        k += 1;
-    }
-    false
+    slots
+        .places
+        .iter()
+        .take(slots.count)
+        .any(|slot| slot.too_large())
 }
 
-// The byte of the first n slots' directions. Asks for at most seven.
-fn directions(slots: [GuaranteedTimeSlotDescriptor; 7], n: usize) -> u8
-    requires { n ≤ 7 }
-    ensures { result ≡ directions_of (take n slots) }
+// The byte of the directions of the slots in use. Asks for at most seven, as the stores below do: `Listed` has to hold
+// more, which are refused.
+fn directions(slots: Listed<GuaranteedTimeSlotDescriptor>) -> u8
+    requires { slots.count ≤ 7 }
+    ensures { result ≡ directions_of (take slots.count slots.places) }
 {
     let mut byte = 0;
-    let mut k = n;
-    while 0 < k {
-        k -= 1;
-        let slot = slots[k];
-        let direction = slot.direction;
-        byte = direction.to_bit() + 2 * byte;
+    for slot in slots.places[..slots.count].iter().rev() {
+        byte = u8::from(slot.direction) + 2 * byte;
     }
     byte
 }
 
-// Stores the first n slots side by side. Asks for at most seven, that no number is too large, and for that room.
-fn put_slots(slots: [GuaranteedTimeSlotDescriptor; 7], n: usize, out: &mut [u8], at: usize)
-    requires n_bound { n ≤ 7 }
-    requires slots_value { some descriptor_too_large (take n slots) ≡ false }
-    requires n_in_bounds { 3 * n ≤ length out.old - at }
-    ensures { out.new ≡ laid out.old at (flat_map descriptor_bytes (take n slots)) }
+// Stores what follows the header: for any slot, the directions and the slots. Asks for at most seven.
+fn put_list(slots: Listed<GuaranteedTimeSlotDescriptor>, out: &mut [u8], at: usize)
+    requires { slots.count ≤ 7 }
+    ensures { out.new ≡ laid out.old at (list_bytes (take slots.count slots.places)) }
 {
-    let mut k = 0;
-    while k < n {
-        let slot = slots[k];
-        slot.put(out, at + 3 * k);
-        k += 1;
-    }
-}
-
-// Stores what follows the header: for any slot, the directions and the slots. Asks for at most seven, that no number is
-// too large, and for that room.
-fn put_list(slots: [GuaranteedTimeSlotDescriptor; 7], n: usize, out: &mut [u8], at: usize)
-    requires n_bound { n ≤ 7 }
-    requires slots_value { some descriptor_too_large (take n slots) ≡ false }
-    requires n_in_bounds { slots_length n ≤ length out.old - at }
-    ensures { out.new ≡ laid out.old at (list_bytes (take n slots)) }
-{
-    if n == 0 {
+    if slots.count == 0 {
         return;
     }
-    let byte = directions(slots, n);
+    let byte = directions(slots);
     let next = put(byte as u64, 1, out, at);
-    put_slots(slots, n, out, next);
+    slots.put(out, next);
 }
 
 // The header and the list.
-#[derive(Clone, Copy)]
+#[derive(Clone, Copy, Debug, PartialEq, Eq)]
 pub struct GuaranteedTimeSlotInformation {
     // The coordinator takes requests for slots.
     pub permit: bool,
-    // How many places of `slots` are in use, at most 7 in a record that can be written.
+    // How many places of `slots` are in use, at most 7 in a record that can be written: a larger count can be made, and
+    // is refused with 8, so no type rules it out.
     pub slot_count: usize,
     pub slots: [GuaranteedTimeSlotDescriptor; 7],
 }
 
-// The slots: the count with the array.
-#[derive(Clone, Copy)]
-pub struct Slots {
-    pub count: usize,
-    pub slots: [GuaranteedTimeSlotDescriptor; 7],
-}
-
-// What reading GTS information answers; refused, with the empty one.
-#[derive(Clone, Copy)]
+// What reading GTS information answers; refused, with the empty one, which a Result would not hand out.
+#[derive(Clone, Copy, Debug, PartialEq, Eq)]
 pub struct TimeSlotsRead {
     pub outcome: Outcome,
     pub guaranteed_time_slot_info: GuaranteedTimeSlotInformation,
@@ -278,7 +248,7 @@ impl TimeSlotsRead {
     {
         let guaranteed_time_slot_info = GuaranteedTimeSlotInformation::new();
         TimeSlotsRead {
-            outcome: Outcome::refused(1),
+            outcome: Err(Refusal::Ended),
             guaranteed_time_slot_info,
         }
     }
@@ -298,13 +268,13 @@ impl GuaranteedTimeSlotInformation {
     }
 
     // The slots, as the record has them.
-    pub fn slots(self) -> Slots
+    pub fn slots(self) -> Listed<GuaranteedTimeSlotDescriptor>
         ensures { result ≡ slots_of self }
     {
-        let slots = self.slots;
-        Slots {
+        let places = self.slots;
+        Listed {
             count: self.slot_count,
-            slots,
+            places,
         }
     }
 
@@ -322,7 +292,7 @@ impl GuaranteedTimeSlotInformation {
         }
         let slots = slots_at(s, at + 1, n as usize);
         TimeSlotsRead {
-            outcome: Outcome::accepted(1 + slots_length(n)),
+            outcome: Ok(1 + slots_length(n)),
             guaranteed_time_slot_info: GuaranteedTimeSlotInformation {
                 permit: header / 128 % 2 == 1,
                 slot_count: n as usize,
@@ -335,11 +305,10 @@ impl GuaranteedTimeSlotInformation {
     pub fn too_large(self) -> bool
         ensures { result ≡ time_slots_too_large self }
     {
-        let slots = self.slots;
         if 7 < self.slot_count {
             return true;
         }
-        some_too_large(slots, self.slot_count)
+        some_too_large(self.slots())
     }
 
     // How many bytes it is written in, 0 where its count is above 7.
@@ -359,34 +328,32 @@ impl GuaranteedTimeSlotInformation {
         requires { self.slot_count ≤ 7 }
         ensures { result ≡ time_slots_header self }
     {
-        self.slot_count as u8 + 128 * bit_of(self.permit)
+        self.slot_count as u8 + 128 * u8::from(self.permit)
     }
 
-    // Stores it. Asks that no number is too large, and for that room.
+    // Stores it. Asks for a count of at most seven.
     fn put(self, out: &mut [u8], at: usize)
-        requires self_value { time_slots_too_large self ≡ false }
-        requires self_in_bounds { time_slots_size self ≤ length out.old - at }
+        requires { self.slot_count ≤ 7 }
         ensures { out.new ≡ laid out.old at (time_slots_bytes self) }
     {
-        let slots = self.slots;
         let header = self.header();
         let next = put(header as u64, 1, out, at);
-        put_list(slots, self.slot_count, out, next);
+        put_list(self.slots(), out, next);
     }
 
     // Writes it at a place; refused, out keeps every byte.
-    pub fn write(self, out: &mut [u8], at: usize) -> ValueWritten
+    pub fn write(self, out: &mut [u8], at: usize) -> Outcome
         ensures value { result ≡ write_time_slots self out.old at }
-        ensures out_after { out.new ≡ after (value_outcome result) out.old at (time_slots_bytes self) }
+        ensures out_after { out.new ≡ after result out.old at (time_slots_bytes self) }
     {
         if self.too_large() {
-            return ValueWritten::TooLarge;
+            return Err(Refusal::TooLarge);
         }
         let n = self.size();
         if left(out, at) < n {
-            return ValueWritten::Full;
+            return Err(Refusal::Ended);
         }
         self.put(out, at);
-        ValueWritten::Written(n)
+        Ok(n)
     }
 }

@@ -2,14 +2,12 @@
 -- Assumes nothing.
 use Prim.Native.Nat.{ℕ, ◌+◌, ◌≤◌, ◌<◌}
 use native.Mathlib.Omega.{arith}
-use mathlib.Core.List.{List, [], ◌∷◌, append-nil}
-use mathlib.Core.Path.{◌≡◌, refl, sym, ◌∙◌}
+use mathlib.Core.List.{List}
+use mathlib.Core.Path.{◌≡◌, refl}
 use borrow.Author.Tests.{ltb-true}
 use lib.Dec.{ltb}
-use lib.ListN.{length, take}
+use lib.ListN.{length}
 use Rattle.octets.proofs.Cases.{cases, holds?}
-use Rattle.line_cutter.specs.Lines.{last, run}
-use Rattle.line_cutter.specs.Telling.{told}
 use Rattle.trace_line.specs.declared.Saying.{Saying}
 use Rattle.trace_line.specs.Saying.{saying}
 use Rattle.trace.specs.Plain.{Trace, lines_most, is_unread}
@@ -50,15 +48,3 @@ module _ (t : Trace) where
         let h = ltb-true t.lines lines_most e in
         simp e (message_most (t.lines + 1) (answer_to t s) (omega (arith, h)) (omega (arith, answer_small))))
         (λ e. simp e (silent (t.lines + 1)))
-
--- the end of the input, without a line that is not ended, and with one
-module _ (t : Trace) where
-  pub end_none : (l : List ℕ) (n : ℕ) → n ≡ 0 → (t ≡ run step_on t (last (take n l))) × ([] ≡ told step_on says t (last (take n l)))
-  unfolding last run told
-  end_none l n e = rw e (refl, refl)
-
-  pub end_some : (l : List ℕ) → 0 < length l →
-      (step_said t (saying l) ≡ run step_on t (last l)) × (says_said t (saying l) ≡ told step_on says t (last l))
-  unfolding last run told
-  end_some [] h = absurd (omega arith)
-  end_some (b ∷ l) h = (sym (step_said_lem t (b ∷ l)), sym (append-nil (says t (b ∷ l)) ∙ says_said_lem t (b ∷ l)))

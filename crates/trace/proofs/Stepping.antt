@@ -9,11 +9,12 @@ use mathlib.Core.Path.{◌≡◌, sym, ap, ◌∙◌, subst}
 use borrow.Author.Tests.{lt-ltb, le-ltb}
 use lib.Dec.{ltb}
 use lib.ListN.{length}
-use Rattle.octets.proofs.Cases.{neither}
+use Rattle.octets.proofs.Cases.{cases, holds?, neither}
+use Rattle.std.specs.Prelude.{Some, None}
 use Rattle.senders.specs.declared.Sender.{Sender}
 use Rattle.senders.specs.declared.Counted.{Counted}
 use Rattle.senders.specs.Hearing.{senders_most, is_crowded, heard_of, AllCountable}
-use Rattle.senders.specs.Table.{table_length, counted_in, fits, goes_on, is_new, table_after, rows_after, counts}
+use Rattle.senders.specs.Table.{table_length, counted_in, fits, goes_on, is_new, table_after, rows_after, counts, rows_heard}
 use Rattle.senders.proofs.Rows.{rows_length, fits_so}
 use Rattle.senders.proofs.After.{after_counted, counts_known}
 use Rattle.trace_line.specs.declared.Saying.{Saying}
@@ -106,30 +107,34 @@ module _ (c : Counts) (t : List ℕ) (w : Within (trace_of c t)) where
 
       -- a frame of a sender, as the table was left by it
       module _ (who : Sender) (number : ℕ) (e : s ≡ Heard who number) (long : length t ≡ table_length) (u : List ℕ)
-          (after : u ≡ table_after t c.rows who number) (n : ℕ) (rows : n ≡ rows_after t c.rows who)
-          (b : Bool) (counted : b ≡ counts t c.rows who) where
+          (after : u ≡ table_after t c.rows who number) where
         abbrev cs : List Counted
         cs = counted_in t c.rows
 
         fit : fits t c.rows ≡ true
         fit = fits_so t c.rows long rows_fit
 
-        crowded_not : is_crowded who cs ≡ not b
-        crowded_not = opposite b (is_crowded who cs) (counted ∙ counts_known t c.rows who number fit rows_countable)
+        crowded_not : is_crowded who cs ≡ not (counts t c.rows who)
+        crowded_not = opposite (counts t c.rows who) (is_crowded who cs) (counts_known t c.rows who number fit rows_countable)
 
-        heard_in_lem : counted_in u n ≡ heard_of who number cs
-        heard_in_lem = rw (after, rows) (after_counted t c.rows who number fit rows_countable)
+        heard_in_lem : (n : ℕ) → n ≡ rows_after t c.rows who → counted_in u n ≡ heard_of who number cs
+        heard_in_lem n rows = rw (after, rows) (after_counted t c.rows who number fit rows_countable)
 
-        pub on_counted : b ≡ true → Stepped s (behind n c.refused c.sourceless c.unread c.crowded) u 0
-        unfolding counted_on
-        on_counted f =
+        pub on_counted : (n : ℕ) → Some n ≡ rows_heard t c.rows who → Stepped s (behind n c.refused c.sourceless c.unread c.crowded) u 0
+        unfolding counted_on rows_heard
+        on_counted n heard =
+            cases (holds? (counts t c.rows who))
+            (λ f.
+            let rows : n ≡ rows_after t c.rows who = let g = simp f at heard in cc in
             let k : is_crowded who cs ≡ false = rw f at crowded_not in
-            on _ u 0 (rw (e, heard_in_lem, k) (simp add_none)) (rw (e, k))
+            on _ u 0 (rw (e, heard_in_lem n rows, k) (simp add_none)) (rw (e, k)))
+            (λ f. absurd (let g = simp f at heard in cc))
 
-        pub on_crowded : b ≡ false → Stepped s (behind c.rows c.refused c.sourceless c.unread (c.crowded + 1)) u 11
-        unfolding counted_on
-        on_crowded f =
+        pub on_crowded : None ≡ rows_heard t c.rows who → Stepped s (behind c.rows c.refused c.sourceless c.unread (c.crowded + 1)) u 11
+        unfolding counted_on rows_heard
+        on_crowded heard =
+            cases (holds? (counts t c.rows who)) (λ f. absurd (let g = simp f at heard in cc))
+            (λ f.
             let k : is_crowded who cs ≡ true = rw f at crowded_not in
-            let same : n ≡ c.rows = rows ∙ rows_stay t c.rows who (sym counted ∙ f) in
-            let l : counted_in u c.rows ≡ heard_of who number cs = ap (counted_in u) (sym same) ∙ heard_in_lem in
-            on _ u 11 (rw (e, l, k) (simp add_none)) (rw (e, k))
+            let l = heard_in_lem c.rows (sym (rows_stay t c.rows who f)) in
+            on _ u 11 (rw (e, l, k) (simp add_none)) (rw (e, k)))

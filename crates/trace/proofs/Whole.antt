@@ -13,7 +13,7 @@ use Rattle.line_cutter.proofs.Telling.{told_whole}
 use Rattle.trace.specs.Plain.{Trace}
 use Rattle.trace.specs.Output.{summary, output}
 use Rattle.trace.specs.Steps.{untold, step_on, says, closing, printed}
-use Rattle.trace.proofs.Finding.{step_sees, says_sees}
+use Rattle.trace.specs.Sees.{step_sees, says_sees}
 use Rattle.trace.proofs.Plainly.{output_told}
 
 -- what is told on the way, and then the counts that this leads to

@@ -4,3 +4,6 @@ pub mod Steps
 pub mod Within
 pub mod State
 pub mod Next
+pub mod Onceness
+pub mod Sees
+pub mod Complaint

@@ -5,6 +5,7 @@ ghost use Rattle.trace_line.specs.Saying.{Spoken};
 ghost use Rattle.trace.specs.Steps.{one_more};
 ghost use Rattle.trace.specs.State.{trace_of, step_said, answer_said};
 ghost use Rattle.trace.specs.Within.{Within};
+ghost use Rattle.trace.specs.Complaint.{complaint_number, answer_number};
 
 use senders::hear;
 use trace_line::Saying;
@@ -14,7 +15,7 @@ const LINES_MOST: u64 = 1000000;
 
 // How many of the first lines there were, and rows of the table of senders in use; refused frames, frames that name no
 // source, lines answered 10, and lines answered 11.
-#[derive(Clone, Copy)]
+#[derive(Clone, Copy, Debug, PartialEq, Eq)]
 pub struct Counts {
     pub lines: u64,
     pub rows: usize,
@@ -24,11 +25,30 @@ pub struct Counts {
     pub crowded: u64,
 }
 
-// The counts behind a line, and how it is answered: 10, 11, or 0 where nothing is written.
-#[derive(Clone, Copy)]
+// Why a line is answered: it says nothing that is counted, 10; or it is of a sixty-fifth sender, 11.
+#[derive(Clone, Copy, Debug, PartialEq, Eq)]
+pub enum Complaint {
+    Unread,
+    Crowded,
+}
+
+impl Complaint {
+    // Its number.
+    pub(crate) fn number(self) -> usize
+        ensures { result ≡ complaint_number self }
+    {
+        match self {
+            Complaint::Unread => 10,
+            Complaint::Crowded => 11,
+        }
+    }
+}
+
+// The counts behind a line, and what it is answered, if anything is written.
+#[derive(Clone, Copy, Debug, PartialEq, Eq)]
 pub struct Answered {
     pub counts: Counts,
-    pub answer: u64,
+    pub answer: Option<Complaint>,
 }
 
 impl Counts {
@@ -56,7 +76,7 @@ pub(crate) fn count(counts: Counts, table: &mut [u64], said: Saying) -> Answered
     requires within { Within (trace_of counts table.old) }
     requires spoken { Spoken said }
     ensures table_after { trace_of result.counts table.new ≡ step_said (trace_of counts table.old) said }
-    ensures answer_value { result.answer ≡ answer_said (trace_of counts table.old) said }
+    ensures answer_value { answer_number result.answer ≡ answer_said (trace_of counts table.old) said }
     ensures within_2 { Within (trace_of result.counts table.new) }
 {
     if counts.lines >= LINES_MOST {
@@ -65,7 +85,7 @@ pub(crate) fn count(counts: Counts, table: &mut [u64], said: Saying) -> Answered
                 unread: one_more(counts.unread),
                 ..counts
             },
-            answer: 0,
+            answer: None,
         };
     }
     let lines = counts.lines + 1;
@@ -77,7 +97,7 @@ pub(crate) fn count(counts: Counts, table: &mut [u64], said: Saying) -> Answered
                     unread: one_more(counts.unread),
                     ..counts
                 },
-                answer: 10,
+                answer: Some(Complaint::Unread),
             }
         }
         Saying::Refused => {
@@ -87,7 +107,7 @@ pub(crate) fn count(counts: Counts, table: &mut [u64], said: Saying) -> Answered
                     refused: counts.refused + 1,
                     ..counts
                 },
-                answer: 0,
+                answer: None,
             }
         }
         Saying::Sourceless => {
@@ -97,28 +117,30 @@ pub(crate) fn count(counts: Counts, table: &mut [u64], said: Saying) -> Answered
                     sourceless: counts.sourceless + 1,
                     ..counts
                 },
-                answer: 0,
+                answer: None,
             }
         }
         Saying::Heard(who, number) => {
-            let heard = hear(table, counts.rows, who, number);
-            if heard.counted {
-                Answered {
-                    counts: Counts {
-                        lines,
-                        rows: heard.rows,
-                        ..counts
-                    },
-                    answer: 0,
+            match hear(table, counts.rows, who, number) {
+                Some(rows) => {
+                    Answered {
+                        counts: Counts {
+                            lines,
+                            rows,
+                            ..counts
+                        },
+                        answer: None,
+                    }
                 }
-            } else {
-                Answered {
-                    counts: Counts {
-                        lines,
-                        crowded: counts.crowded + 1,
-                        ..counts
-                    },
-                    answer: 11,
+                None => {
+                    Answered {
+                        counts: Counts {
+                            lines,
+                            crowded: counts.crowded + 1,
+                            ..counts
+                        },
+                        answer: Some(Complaint::Crowded),
+                    }
                 }
             }
         }

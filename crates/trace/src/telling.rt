@@ -1,5 +1,6 @@
 // What is written of a trace: a line that is answered 10 or 11, and the counts in the end. A store takes as much as has
-// room and returns the place behind it.
+// room and returns the place behind it; by hand, and not by Display, as in `labelled`. The table is a slice, as it is
+// for `senders`.
 ghost use Rattle.std.specs.Prelude.{◌≤◌, ◌*◌, [], ◌∷◌, ◌++◌, ◌≡◌, length};
 ghost use Rattle.octets.specs.Words.{flat_map};
 ghost use Rattle.line_cutter.specs.Line.{tab_byte};
@@ -9,10 +10,11 @@ ghost use Rattle.labelled.specs.Put.{Put};
 ghost use Rattle.senders.specs.Hearing.{senders_most};
 ghost use Rattle.senders.specs.Table.{table_length, counted_in};
 ghost use Rattle.trace.specs.Output.{message, sender_line, other_lines, summary};
+ghost use Rattle.trace.specs.Complaint.{answer_number};
 ghost use Rattle.trace.specs.State.{trace_of};
 ghost use Rattle.trace.specs.Within.{AllSmall};
 
-use crate::counting::Counts;
+use crate::counting::{Complaint, Counts};
 use labelled::{last_hex_digit, put_byte, put_column};
 use octets::copy;
 use senders::{Counted, Sender, row_at};
@@ -25,15 +27,15 @@ fn put_count(word: &[u8], n: u64, out: &mut [u8], at: usize) -> usize
     put_column(n as usize, out, next)
 }
 
-// Stores the answer to a line, its number counted from 1; nothing for the answer 0.
-pub(crate) fn put_message(line: u64, answer: u64, out: &mut [u8], at: usize) -> usize
-    ensures { Put out.old at (message line answer) out.new result }
+// Stores the answer to a line, its number counted from 1; nothing where it is not answered.
+pub(crate) fn put_message(line: u64, answer: Option<Complaint>, out: &mut [u8], at: usize) -> usize
+    ensures { Put out.old at (message line (answer_number answer)) out.new result }
 {
-    if answer == 0 {
+    let Some(complaint) = answer else {
         return at;
-    }
+    };
     let next = put_count(b"line", line, out, at);
-    let next = put_column(answer as usize, out, next);
+    let next = put_column(complaint.number(), out, next);
     put_byte(b'\n', out, next)
 }
 
@@ -43,9 +45,7 @@ fn put_hex(v: u64, digits: usize, out: &mut [u8], at: usize) -> usize
     ensures { Put out.old at (hex_by digits v) out.new result }
 {
     let mut next = at;
-    let mut i = digits;
-    while i > 0 {
-        i -= 1;
+    for i in (0..digits).rev() {
         let digit = last_hex_digit(v >> (4 * i));
         next = put_byte(digit, out, next);
     }
@@ -95,11 +95,8 @@ fn put_senders(counts: Counts, table: &[u64], out: &mut [u8], at: usize) -> usiz
         (flat_map sender_line (counted_in table.now counts.rows)) out.new result }
 {
     let mut next = at;
-    let mut i = 0;
-    while i < counts.rows {
-        let c = row_at(table, i);
-        next = put_sender(c, out, next);
-        i += 1;
+    for i in 0..counts.rows {
+        next = put_sender(row_at(table, i), out, next);
     }
     next
 }
@@ -115,8 +112,8 @@ fn put_others(counts: Counts, out: &mut [u8], at: usize) -> usize
     put_byte(b'\n', out, next)
 }
 
-// Stores each sender with its counts, and the other counts. The rows in use have to be in the table, and addresses of at
-// most eight bytes in them.
+// Stores each sender with its counts, and the other counts. The rows in use have to be in the table, and addresses of
+// at most eight bytes in them.
 pub(crate) fn put_summary(counts: Counts, table: &[u64], out: &mut [u8], at: usize) -> usize
     requires rows_le_senders_most { counts.rows ≤ senders_most }
     requires table_len { length table.now ≡ table_length }

@@ -4,6 +4,7 @@
 use Prim.Native.Nat.{ℕ, suc, ◌+◌, ◌-◌, ◌≤◌, ◌<◌}
 use native.Mathlib.Omega.{arith}
 use mathlib.Core.Bool.{true, false, not, or-true}
+use Rattle.std.specs.Prelude.{Option, Some}
 use mathlib.Core.List.{List, ◌∷◌, ◌++◌}
 use mathlib.Core.Path.{◌≡◌, refl, sym, ap, ◌∙◌, subst}
 use borrow.Author.Tests.{ltb-true, ltb-false, lt-ltb, le-ltb, eqb-true, not-false}
@@ -125,28 +126,29 @@ saying_front l =
     sym (long_other (take kept_most l) (omega arith)) ∙ long_other l (omega arith))
 
 -- what is found from a place on, up to where it ends, is a line that says what is found
-module _ (table s : List ℕ) (at stop : ℕ) (frame : List ℕ) (r : Parts) (after : List ℕ) (found : Found table s at stop frame r after)
-    (good : r.good ≡ true) where
+module _ (table s : List ℕ) (at stop : ℕ) (frame : List ℕ) (r : Parts) (after : List ℕ)
+    (found : Found table s at stop frame (Some r) after) where
   part_said : r.end - at ≤ line_most → of_header (read_header (take r.count after)) r.size ≡ saying (take (r.end - at) (drop at s))
   part_said h =
-      let f = found_fields table s at stop frame r after found good in
+      let f = found_fields table s at stop frame r after found in
       let k : length (take (r.end - at) (drop at s)) ≤ line_most = omega (arith, h, length-take (r.end - at) (drop at s)) in
-      rw (found_size table s at stop frame r after found good, sym (found_bytes table s at stop frame r after found good)) (sym (fields_said _ _ _ _ _ f k))
+      rw (found_size table s at stop frame r after found, sym (found_bytes table s at stop frame r after found)) (sym (fields_said _ _ _ _ _ f k))
 
 -- a line by itself
-module _ (table l frame : List ℕ) (r : Parts) (after : List ℕ) (found : Found table l 0 9 frame r after) (short : length l ≤ line_most) where
-  pub whole_said : r.good ≡ true → r.end ≡ length l → of_header (read_header (take r.count after)) r.size ≡ saying l
-  whole_said good end =
-      part_said table l 0 9 frame r after found good (omega (arith, end, short)) ∙ ap saying (take_all (r.end - 0) l (omega (arith, end)))
+module _ (table l frame after : List ℕ) (short : length l ≤ line_most) where
+  pub whole_said : (r : Parts) → Found table l 0 9 frame (Some r) after → r.end ≡ length l →
+      of_header (read_header (take r.count after)) r.size ≡ saying l
+  whole_said r found end =
+      part_said table l 0 9 frame r after found (omega (arith, end, short)) ∙ ap saying (take_all (r.end - 0) l (omega (arith, end)))
 
-  pub whole_other : (r.good ≡ true → r.end ≡ length l → ⊥) → Unread ≡ saying l
-  whole_other other =
+  pub whole_other : (o : Option Parts) → Found table l 0 9 frame o after → ((r : Parts) → o ≡ Some r → r.end ≡ length l → ⊥) → Unread ≡ saying l
+  whole_other o found other =
       cases (holds? (malformed l)) (malformed_said l)
       (λ h.
       let f = formed l h in
       let a = all_found table l 0 _ _ _ _ f found.values found.bytes short in
-      let e : r ≡ parts_in table l 0 9 512 = found.parts.0 ∙ ap (parts_in table l 0 9) found.room in
-      absurd (other (ap (λ (p : Parts). p.good) e ∙ a.0) (ap (λ (p : Parts). p.end) e ∙ a.1)))
+      let e : o ≡ parts_in table l 0 9 512 = found.parts.0 ∙ ap (parts_in table l 0 9) found.room in
+      absurd (other a.0 (e ∙ a.1) a.2))
 
 -- a line that lies in a list from a place on, with a line feed behind it
 pub record Lying (s : List ℕ) (at : ℕ) (r : Parts) (frame : List ℕ) : Type 0 where
@@ -155,14 +157,14 @@ pub record Lying (s : List ℕ) (at : ℕ) (r : Parts) (frame : List ℕ) : Type
   pub free : Free 10 (take (r.end - at) (drop at s))
   pub said : of_header (read_header (take r.count frame)) r.size ≡ saying (take (r.end - at) (drop at s))
 
-pub quick_said : (table s : List ℕ) (at : ℕ) (frame : List ℕ) (r : Parts) (after : List ℕ) → Found table s at 10 frame r after →
-    r.good ≡ true → is_at s r.end 10 ≡ true → r.end - at ≤ line_most → Lying s at r after
-quick_said table s at frame r after found good feed short =
+pub quick_said : (table s : List ℕ) (at : ℕ) (frame : List ℕ) (r : Parts) (after : List ℕ) → Found table s at 10 frame (Some r) after →
+    is_at s r.end 10 ≡ true → r.end - at ≤ line_most → Lying s at r after
+quick_said table s at frame r after found feed short =
     let t = there s r.end 10 feed in
-    let begins = (parts_within table s at 10 (length frame) r found.parts.0 good).0 in
+    let begins = (parts_within table s at 10 (length frame) r found.parts.0).0 in
     record {
       begins = begins;
       parted = split_there s at (r.end - at) r.end 10 (omega (arith, begins)) t.0 t.1;
-      free = fields_free _ _ _ _ _ (found_fields table s at 10 frame r after found good) (free_second 9 10 _);
-      said = part_said table s at 10 frame r after found good short;
+      free = fields_free _ _ _ _ _ (found_fields table s at 10 frame r after found) (free_second 9 10 _);
+      said = part_said table s at 10 frame r after found short;
     }

@@ -1,11 +1,11 @@
 -- What a line of a trace says, given without its line feed: document 02, request 3, "one frame a line: tick, antenna,
 -- header size as `get_octet_size` gives it, bytes in hex, parted by tabs".
 use Rattle.std.specs.Prelude.{ℕ, ◌≤◌, ◌<◌, Bool, cond, not, ◌||◌, List, ltb, eqb, length}
-use Rattle.address.specs.declared.{Address.Address, OptionalAddress.OptionalAddress}
+use Rattle.std.specs.Prelude.{Option, Some, None, Result, Ok, Err}
+use Rattle.octets.specs.declared.Refusal.{Refusal}
+use Rattle.address.specs.declared.{Address.Address}
 use Rattle.address.specs.declared.Address.TheVariants.{Short, Extended}
-use Rattle.address.specs.declared.OptionalAddress.TheVariants.{Absent, Present}
-use Rattle.header.specs.{declared.HeaderRead.HeaderRead, Record.octet_size, Read.read_header}
-use Rattle.header.specs.declared.HeaderRead.TheVariants.{Read, Refused as RefusedHeader}
+use Rattle.header.specs.{declared.Header.Header, Record.octet_size, Read.read_header}
 use Rattle.line_cutter.specs.{Line.line_most}
 use Rattle.hexadecimal.specs.{Hex.odd, Hex.foreign, Hex.unhex}
 use Rattle.decimal.specs.Decimal.{is_decimal, value_of}
@@ -41,15 +41,15 @@ sender_of (Short p a) = record { octets = 2; pan_id = p.0; address = a.0 }
 sender_of (Extended p a) = record { octets = 8; pan_id = p.0; address = a.0 }
 
 -- a frame of a source, or of none
-abbrev pub of_source : OptionalAddress → ℕ → Saying
-of_source Absent number = Sourceless
-of_source (Present a) number = Heard (sender_of a) number
+abbrev pub of_source : Option Address → ℕ → Saying
+of_source None number = Sourceless
+of_source (Some a) number = Heard (sender_of a) number
 
 -- a frame whose line names a size: "a size that disagrees with an accepted frame" is 10, also where the frame names no
 -- source
-abbrev pub of_header : HeaderRead → ℕ → Saying
-of_header (RefusedHeader r) size = Refused
-of_header (Read h n) size = cond (eqb size (octet_size h)) (of_source h.source h.seq) Unread
+abbrev pub of_header : Result (Header × ℕ) Refusal → ℕ → Saying
+of_header (Err r) size = Refused
+of_header (Ok (h, n)) size = cond (eqb size (octet_size h)) (of_source h.source h.seq) Unread
 
 unfoldable pub saying : List ℕ → Saying
 saying l = cond (malformed l) Unread (of_header (read_header (unhex (bytes_of l))) (value_of (size_of l)))

@@ -1,19 +1,27 @@
 -- `alterations::leaves_alone` meets its contract: by the answer and the count.
 -- Assumes nothing.
+use Prim.Native.Nat.{ℕ}
+use mathlib.Core.Bool.{true, false}
 use mathlib.Core.Path.{sym, ap, ◌∙◌}
-use borrow.Author.Tests.{eq-eqb, ne_eqb}
+use lib.Dec.{eqb}
+use lib.ListN.{length}
+use Rattle.std.proofs.lemmas.List.{length-map}
+use Rattle.beacon.specs.Beacon.{refuses}
+use Rattle.alterations.specs.Bytes.{pair}
 use Rattle.alterations.specs.declared.Alterations.{Alterations}
 use Rattle.alterations.specs.Altered.{alterations}
+use Rattle.alterations.proofs.Told.{refusing}
 use Rattle.alterations.proofs.leaves_alone.Goals as goal
 
-pub returns-then-outcome-ne0 : goal.returns-then-outcome-ne0
+pub returns-then-is_ok : goal.returns-then-is_ok
 unfolding alterations
-returns-then-outcome-ne0 c =
-    let told = ap (λ (a : Alterations). a.outcome.number) c.altered_bits-list.ensures in
-    simp (ne_eqb _ 0 (λ z. c.if-outcome-ne0.true (told ∙ z)))
+returns-then-is_ok c =
+    let told = ap (λ (a : Alterations). refuses a.outcome) (sym c.altered_bits-list.ensures) in
+    let few = sym (length-map c.as_slice.result.now pair) ∙ ap length c.as_slice.ensures.value ∙ ap (λ (a : Alterations). length a.bytes) c.altered_bits-list.ensures in
+    simp (told ∙ refusing _ true (sym c.is_ok.ensures.value ∙ c.if-is_ok.true)) (c.is_empty.ensures ∙ ap (λ (n : ℕ). eqb n 0) few)
 
-pub returns : goal.returns
+pub returns-else-is_ok : goal.returns-else-is_ok
 unfolding alterations
-returns c =
-    let told = ap (λ (a : Alterations). a.outcome.number) c.altered_bits-list.ensures in
-    simp (eq-eqb _ 0 (sym told ∙ c.if-outcome-ne0.false), ap (λ (a : Alterations). a.count) c.altered_bits-list.ensures)
+returns-else-is_ok c =
+    let told = ap (λ (a : Alterations). refuses a.outcome) (sym c.altered_bits-list.ensures) in
+    c.if-is_ok.false ∙ simp (told ∙ refusing _ false (sym c.is_ok.ensures.value ∙ c.if-is_ok.false))

@@ -1,68 +1,67 @@
 -- `decimal::decimal_at` meets its contract. The digits still to come, behind what those so far make, make what all make, or all make 2^64
 -- or more; and where the loop ends none are left.
 -- Assumes nothing.
-use Rattle.std.proofs.Common.{◌≡◌, ◌+◌, ◌-◌, ◌*◌, ◌^◌, ◌≤◌, ◌<◌, true, [], length, get_or, drop, refl, sym, ap, ◌∙◌, arith}
+use Rattle.std.proofs.Common.{◌≡◌, ℕ, ◌+◌, ◌≤◌, true, Option, Some, None, List, [], length, get_or, drop, refl, sym, ap, ◌∙◌, arith, length-drop, Bor}
+use Rattle.std.specs.Slice.{IsGetRangeResult}
+use Rattle.std.specs.Option.{unwrap_or}
+use lib.ListN.{drop_of_length-le}
+use lib.Seq.{take_all}
+use Rattle.octets.proofs.Cases.{cases}
 use Rattle.decimal.specs.Decimal.{is_numeral, numerals}
-use Rattle.decimal.proofs.Numerals.{numeral_range, numerals_digit, numerals_other, numerals_end}
-use Rattle.decimal.proofs.Numerals.{counted_none, counted_more, counted_past, in_good, in_large, in_none}
+use Rattle.decimal.proofs.Numerals.{numeral_tells, numerals_digit, numerals_other, numerals_end}
+use Rattle.decimal.proofs.Numerals.{counted_none, counted_more, in_digits, in_none}
 use Rattle.decimal.proofs.decimal_at.Goals as goal
-use Rattle.decimal.proofs.decimal_at.Goals.{then-value-lt-TENTH, else-value-lt-TENTH+then-value-eq-TENTH+then-d-le5, else-value-lt-TENTH+else-value-eq-TENTH, else-value-eq-TENTH-via-then-value-eq-TENTH+else-d-le5, else-value-eq-TENTH-via-else-value-eq-TENTH}
-use Rattle.decimal.proofs.decimal_at.Goals.{then-loop-i-test+else-is_numeral, else-loop-i-test}
-use Rattle.decimal.proofs.decimal_at.Goals.{else-i-at-via-then-i-at+else-fits, else-i-at-via-else-i-at}
+use Rattle.decimal.proofs.decimal_at.Goals.{else-loop-b-test, then-loop-b-test+then-not-is_ascii_digit}
 
-pub loop-i-init : goal.loop-i-init
-loop-i-init c = (refl, counted_none _)
+-- what stands from a place on, nothing past the end
+behind : (s : List ℕ) (at : ℕ) (o : Option (Bor (List ℕ))) (d r : Bor (List ℕ)) → IsGetRangeResult s at (length s) o → r ≡ unwrap_or o d →
+    d.now ≡ [] → r.now ≡ drop at s
+behind s at (Some x) d r h e n = rw e (h.0.2 ∙ take_all _ (drop at s) (omega (arith, length-drop at s)))
+behind s at None d r h e n =
+    let past : length s ≤ at = cases h.0 (λ p. omega (arith, p)) (λ p. omega (arith, p)) in
+    rw (e, n, drop_of_length-le s past)
 
-pub loop-i-preserved : goal.loop-i-preserved
-loop-i-preserved c =
-    let s = c.args.s.now in
-    let b = get_or s c.loop-i.i 0 in
+-- where none are left the place at hand is behind the last
+come : (s items : List ℕ) (at end i : ℕ) → items ≡ drop at s → end ≡ at + i → i + length (numerals (drop i items)) ≡ length (numerals items) →
+    numerals (drop i items) ≡ [] → end ≡ at + length (numerals (drop at s))
+come s items at end i e f g n = omega (arith, ap length n, f, g, ap (λ (l : List ℕ). length (numerals l)) e)
+
+pub loop-b-init : goal.loop-b-init
+loop-b-init c = (omega arith, omega arith, counted_none _)
+
+pub loop-b-preserved : goal.loop-b-preserved
+loop-b-preserved c =
+    let s = c.unwrap_or-b-items.result.now in
+    let b = get_or s c.loop-b.b-index 0 in
     -- the byte at hand is a digit
-    let digit : is_numeral b ≡ true = sym c.is_numeral.ensures ∙ c.if-is_numeral.true in
-    let in_range : (48 ≤ b) × (b < 58) = numeral_range b digit in
-    let more = numerals_digit s c.loop-i.i (omega arith) digit in
-    let h = rw more at c.loop-i.invariant.1 in
-    -- what the digits make with it, and that it is below 2^64 or not, as the tests tell
-    let next = 10 * c.loop-i.value + (b - 48) in (
-      omega (arith, ap length more),
-      elim c.if-value-lt-TENTH.branch [
-        | then-value-lt-TENTH w ↦ (let below : next < 2 ^ 64 = omega arith in rw (w.value-is, w.fits-is) (counted_more _ _ _ _ _ below h))
-        | else-value-lt-TENTH+then-value-eq-TENTH+then-d-le5 w ↦
-            (let below : next < 2 ^ 64 = omega arith in rw (w.value-is, w.fits-is) (counted_more _ _ _ _ _ below h))
-        | else-value-lt-TENTH+else-value-eq-TENTH w ↦
-            (let above : 2 ^ 64 ≤ next =
-            elim w.else-value-eq-TENTH.branch [
-              | else-value-eq-TENTH-via-then-value-eq-TENTH+else-d-le5 v ↦ omega arith
-              | else-value-eq-TENTH-via-else-value-eq-TENTH v ↦ omega arith
-            ] in
-            rw (w.value-is, w.fits-is) (counted_past _ _ _ _ _ above h))
-      ],
+    let digit : is_numeral b ≡ true = sym (numeral_tells b _ c.is_ascii_digit.ensures.value) ∙ c.if-not-is_ascii_digit.false in
+    let more = numerals_digit s c.loop-b.b-index (omega arith) digit in (
+      omega arith,
+      omega (arith, ap length more, c.loop-b.invariant.1),
+      rw c.appended-value.ensures (counted_more _ _ _ _ (rw more at c.loop-b.invariant.2)),
     )
 
-pub returns-then-fits : goal.returns-then-fits
-returns-then-fits c =
-    let s = c.args.s.now in
-    let i = c.loop-i.i in
+pub returns-then-end-at : goal.returns-then-end-at
+returns-then-end-at c =
+    let s = c.unwrap_or-b-items.result.now in
+    let i = c.loop-b.b-index in
     let none_left : numerals (drop i s) ≡ [] =
-    elim c.loop-i-test.branch [
-      | then-loop-i-test+else-is_numeral w ↦ numerals_other s i w.loop-i-test.true (sym w.is_numeral.ensures ∙ w.if-is_numeral.false)
-      | else-loop-i-test w ↦ numerals_end s i w.loop-i-test.false
+    elim c.loop-b-test.branch [
+      | then-loop-b-test+then-not-is_ascii_digit w ↦ numerals_other s i w.loop-b-test.true (sym (numeral_tells (get_or s i 0) _ w.is_ascii_digit.ensures.value) ∙ w.if-not-is_ascii_digit.true)
+      | else-loop-b-test w ↦ numerals_end s i w.loop-b-test.false
     ] in
-    -- and the place at hand is behind the last
-    let all_come : i ≡ c.args.at + length (numerals (drop c.args.at s)) = omega (arith, ap length none_left, c.loop-i.invariant.0) in
-    in_good _ _ _ all_come _ (rw (c.if-fits.true, none_left) at c.loop-i.invariant.1) c.if-i-at.true
+    in_none _ _ _ (come _ _ _ _ i (behind _ _ _ _ _ c.get.ensures.lookup c.unwrap_or-b-items.ensures refl) c.loop-b.invariant.0 c.loop-b.invariant.1 none_left)
+    (omega arith)
 
-pub returns-else-i-at : goal.returns-else-i-at
-returns-else-i-at c =
-    let s = c.args.s.now in
-    let i = c.loop-i.i in
+pub returns : goal.returns
+returns c =
+    let s = c.unwrap_or-b-items.result.now in
+    let i = c.loop-b.b-index in
     let none_left : numerals (drop i s) ≡ [] =
-    elim c.loop-i-test.branch [
-      | then-loop-i-test+else-is_numeral w ↦ numerals_other s i w.loop-i-test.true (sym w.is_numeral.ensures ∙ w.if-is_numeral.false)
-      | else-loop-i-test w ↦ numerals_end s i w.loop-i-test.false
+    elim c.loop-b-test.branch [
+      | then-loop-b-test+then-not-is_ascii_digit w ↦ numerals_other s i w.loop-b-test.true (sym (numeral_tells (get_or s i 0) _ w.is_ascii_digit.ensures.value) ∙ w.if-not-is_ascii_digit.true)
+      | else-loop-b-test w ↦ numerals_end s i w.loop-b-test.false
     ] in
-    let all_come : i ≡ c.args.at + length (numerals (drop c.args.at s)) = omega (arith, ap length none_left, c.loop-i.invariant.0) in
-    elim c.else-i-at.branch [
-      | else-i-at-via-then-i-at+else-fits w ↦ in_large _ _ _ all_come _ (rw (w.if-fits.false, none_left) at c.loop-i.invariant.1)
-      | else-i-at-via-else-i-at w ↦ in_none _ _ _ all_come w.if-i-at.false
-    ]
+    let items : s ≡ drop c.args.at c.args.s.now = behind _ _ _ _ _ c.get.ensures.lookup c.unwrap_or-b-items.ensures refl in
+    let all = rw none_left at c.loop-b.invariant.2 in
+    in_digits _ _ _ (come _ _ _ _ i items c.loop-b.invariant.0 c.loop-b.invariant.1 none_left) _ (rw items at all) (omega arith)

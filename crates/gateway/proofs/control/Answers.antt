@@ -2,9 +2,8 @@
 -- Assumes nothing.
 use Prim.Native.Nat.{ℕ}
 use mathlib.Core.List.{List, [], ◌∷◌}
-use mathlib.Core.Path.{◌≡◌, refl, sym, ◌∙◌}
+use mathlib.Core.Path.{◌≡◌, refl, ◌∙◌}
 use lib.ListN.{take}
-use lib.Seq.{length-take-le}
 use Rattle.octets.specs.Little.{number}
 use Rattle.gateway.proofs.control.Goals as goal
 
@@ -13,9 +12,6 @@ unfolding number
 number_front [] = refl
 number_front (a ∷ []) = refl
 number_front (a ∷ b ∷ s) = refl
-
-pub slice_bounds-u16_at-end : goal.slice_bounds-u16_at-end
-slice_bounds-u16_at-end c = sym (length-take-le 2 c.args.frame.now c.requires)
 
 pub returns : goal.returns
 returns c = c.u16_at.ensures ∙ number_front _

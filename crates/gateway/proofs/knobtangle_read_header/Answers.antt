@@ -5,17 +5,15 @@ use mathlib.Core.List.{List}
 use mathlib.Core.Path.{◌≡◌, ap, ◌∙◌}
 use borrow.Author.Tests.{lt-ltb}
 use lib.ListN.{length}
-use Rattle.octets.specs.Outcome.{refused}
 use Rattle.header_bytes.specs.Reading.{measured}
-use Rattle.gateway.specs.Code.{code_of}
 use Rattle.gateway.proofs.knobtangle_read_header.Goals as goal
+use Rattle.std.specs.Prelude.{Err}
+use Rattle.octets.specs.Outcome.{code_of}
+use Rattle.octets.specs.declared.Refusal.TheVariants.{Ended}
 
-ended : (s : List ℕ) → length s < 3 → refused 1 ≡ measured s
+ended : (s : List ℕ) → length s < 3 → Err Ended ≡ measured s
 unfolding measured
 ended s h = rw (lt-ltb (length s) 3 h)
 
 pub returns-then-frame-lt3 : goal.returns-then-frame-lt3
-returns-then-frame-lt3 c = c.code.ensures ∙ ap code_of (c.refused.ensures ∙ ended c.args.frame.now c.if-frame-lt3.true)
-
-pub returns : goal.returns
-returns c = c.code-2.ensures ∙ ap code_of c.measure_header.ensures
+returns-then-frame-lt3 c = c.code.ensures ∙ ap code_of (ended c.args.frame.now c.if-frame-lt3.true)

@@ -19,7 +19,7 @@ pub loop-n-init : goal.loop-n-init
 loop-n-init c =
     let a = c.args in
     let e = rest_all a.values.now a.s.now a.at (length a.out.now) in
-    (omega arith, omega arith, omega arith, refl, ap (laid a.out.now 0) e, omega (arith, ap length e))
+    (omega arith, omega arith, refl, ap (laid a.out.now 0) e, omega (arith, ap length e))
 
 pub loop-n-preserved : goal.loop-n-preserved
 loop-n-preserved c =
@@ -27,19 +27,18 @@ loop-n-preserved c =
     let a = c.args in
     let e = rest_pair a.values.now a.s.now a.at (length a.out.now) l.n _ (omega arith) (omega arith)
     c.pair_of-pair.ensures c.if-pair-gt255.false in (
-      omega arith,
+      l.invariant.0,
       l.invariant.1,
-      l.invariant.2,
-      simp length-set l.invariant.3,
-      laid_cons l.out l.n _ _ ∙ ap (laid l.out l.n) (sym e) ∙ l.invariant.4,
-      omega (arith, ap length e, l.invariant.5),
+      simp length-set l.invariant.2,
+      laid_cons l.out l.n _ _ ∙ ap (laid l.out l.n) (sym e) ∙ l.invariant.3,
+      omega (arith, ap length e, l.invariant.4),
     )
 
 pub returns-then-pair-gt255 : goal.returns-then-pair-gt255
 returns-then-pair-gt255 c =
     let l = c.loop-n in
     let a = c.args in
-    let both = done _ _ _ _ _ l.invariant.4 l.invariant.5
+    let both = done _ _ _ _ _ l.invariant.3 l.invariant.4
     (rest_none _ _ _ _ l.n
     (by_other a.values.now a.s.now (a.at + 2 * l.n) _ (omega arith) c.pair_of-pair.ensures c.if-pair-gt255.true)) in record {
       value = both.0;
@@ -50,9 +49,10 @@ pub returns : goal.returns
 returns c =
     let l = c.loop-n in
     let a = c.args in
-    let both = done _ _ _ _ _ l.invariant.4 l.invariant.5
-    (rest_end a.values.now a.s.now a.at (length a.out.now) l.n (omega (arith, c.most-end.ensures))) in record {
-      value = both.0;
+    let at_end : l.n ≡ c.most-end.result = omega arith in
+    let both = done _ _ _ _ _ l.invariant.3 l.invariant.4
+    (rest_end a.values.now a.s.now a.at (length a.out.now) l.n (at_end ∙ c.most-end.ensures)) in record {
+      value = sym at_end ∙ both.0;
       out_after = both.1;
     }
 

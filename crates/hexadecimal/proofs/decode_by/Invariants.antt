@@ -10,12 +10,8 @@ use Rattle.hexadecimal.proofs.decode_by.Given as goal
 
 abbrev pub invariant-loop-n : goal.invariant-loop-n
 invariant-loop-n l =
-    (l.n ≤ l.end)
-    × (l.end ≤ length l.initial.out)
+    (l.end ≤ length l.initial.out)
     × (2 * l.end ≤ length l.s - l.at)
     × (length l.out ≡ length l.initial.out)
     × (laid l.out l.n (rest l.values l.s l.at (length l.initial.out) l.n) ≡ laid l.initial.out 0 (decoded_by l.values l.s l.at (length l.initial.out)))
     × (l.n + length (rest l.values l.s l.at (length l.initial.out) l.n) ≡ length (decoded_by l.values l.s l.at (length l.initial.out)))
-
-abbrev pub decreases-loop-n : goal.decreases-loop-n
-decreases-loop-n l = l.end - l.n

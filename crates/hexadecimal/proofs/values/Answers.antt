@@ -1,6 +1,6 @@
 -- `hexadecimal::values` meets its contract. The invariant: the table has what each byte before the one at hand counts for.
 -- Assumes nothing.
-use Prim.Native.Nat.{ℕ, ◌+◌, ◌≤◌, ◌<◌}
+use Prim.Native.Nat.{ℕ, ◌+◌, ◌<◌}
 use native.Mathlib.Numerals.{add-one}
 use native.Mathlib.Omega.{arith}
 use mathlib.Core.List.{List, []}
@@ -18,19 +18,16 @@ next : (table : List ℕ) (b v : ℕ) → b < length table → v ≡ worth b →
 unfolding worths
 next table b v h e f = rw (add-one b, take-suc-set table b v h, e, f)
 
-all : (table : List ℕ) (b : ℕ) → length table ≡ 256 → b ≤ 256 → 256 ≤ b → take b table ≡ worths b → table ≡ worths 256
-all table b l h k e =
-    let n : b ≡ 256 = omega arith in
-    sym (take_all 256 table (omega arith)) ∙ ap (λ (m : ℕ). take m table) (sym n) ∙ e ∙ ap worths n
+all : (table : List ℕ) (b : ℕ) → length table ≡ 256 → b ≡ 256 → take b table ≡ worths b → table ≡ worths 256
+all table b l n e = sym (take_all 256 table (omega arith)) ∙ ap (λ (m : ℕ). take m table) (sym n) ∙ e ∙ ap worths n
+
+pub loop-b-init : goal.loop-b-init
+loop-b-init c = (length-replicate {A = ℕ} 256 0, none)
 
 pub loop-b-preserved : goal.loop-b-preserved
 loop-b-preserved c =
     let l = c.loop-b in
-    let e = next l.table l.b _ (omega (arith, l.invariant.1.0, c.loop-b-test.true)) c.value.ensures l.invariant.1.1 in
-    (omega arith, (simp length-set l.invariant.1.0, e))
-
-pub loop-b-init : goal.loop-b-init
-loop-b-init c = (omega arith, (length-replicate {A = ℕ} 256 0, none))
+    (simp length-set l.invariant.0, next l.table l.b _ (omega arith) c.value.ensures l.invariant.1)
 
 pub returns : goal.returns
-returns c = let l = c.loop-b in all l.table l.b l.invariant.1.0 l.invariant.0 c.loop-b-test.false l.invariant.1.1
+returns c = let l = c.loop-b in all l.table l.b l.invariant.0 (omega arith) l.invariant.1

@@ -1,13 +1,9 @@
 -- `hexadecimal::values` meets its contract. The invariant: the table has what each byte before the one at hand counts for.
 -- Assumes nothing.
-use Prim.Native.Nat.{◌-◌, ◌≤◌}
 use mathlib.Core.Path.{◌≡◌}
 use lib.ListN.{length, take}
 use Rattle.hexadecimal.specs.Hex.{worths}
 use Rattle.hexadecimal.proofs.values.Given as goal
 
 abbrev pub invariant-loop-b : goal.invariant-loop-b
-invariant-loop-b l = (l.b ≤ 256) × ((length l.table ≡ 256) × (take l.b l.table ≡ worths l.b))
-
-abbrev pub decreases-loop-b : goal.decreases-loop-b
-decreases-loop-b l = 256 - l.b
+invariant-loop-b l = (length l.table ≡ 256) × (take l.b l.table ≡ worths l.b)

@@ -19,6 +19,6 @@ pub returns : goal.returns
 unfolding key_bytes
 returns c =
     record {
-      value = rw c.in-Present.is (omega (arith, c.put.ensures.value, c.put_source-next.ensures.value, c.put_source-next.auto.out, source_key c.in-Present.present.key_source));
-      out_after = rw c.in-Present.is (c.put.ensures.out_after ∙ rw c.put_source-next.ensures.out_after (laid_on _ _ _ _ _ _ (source_length_lem c.in-Present.present.key_source) c.put_source-next.ensures.value));
+      value = rw c.in-Some.is (omega (arith, c.put.ensures.value, c.put_source-next.ensures.value, c.put_source-next.auto.out, source_key c.in-Some.present.key_source));
+      out_after = rw c.in-Some.is (c.put.ensures.out_after ∙ rw c.put_source-next.ensures.out_after (laid_on _ _ _ _ _ _ (source_length_lem c.in-Some.present.key_source) c.put_source-next.ensures.value));
     }

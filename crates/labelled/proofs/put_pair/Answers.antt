@@ -11,6 +11,6 @@ pub returns : goal.returns
 unfolding hex_by
 returns c =
     same
-    (ap (λ (d : ℕ). d ∷ c.last_hex_digit-low.result ∷ []) c.last_hex_digit-high.ensures
-    ∙ ap (λ (d : ℕ). hex_digit (c.args.byte / 16 % 16) ∷ d ∷ []) c.last_hex_digit-low.ensures)
+    (ap (λ (d : ℕ). d ∷ c.last_hex_digit-low.result ∷ []) (rw c.from-number.ensures at c.last_hex_digit-high.ensures)
+    ∙ ap (λ (d : ℕ). hex_digit (c.args.byte / 16 % 16) ∷ d ∷ []) (rw c.from-number.ensures at c.last_hex_digit-low.ensures))
     (join c.put_byte-next.ensures c.put_byte.ensures)

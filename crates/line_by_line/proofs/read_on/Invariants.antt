@@ -4,4 +4,4 @@ use Rattle.std.specs.Prelude.{◌≤◌, ◌≡◌, length}
 use Rattle.line_by_line.proofs.read_on.Given as goal
 
 abbrev pub invariant-loop : goal.invariant-loop
-invariant-loop g l = (length l.line ≡ length l.fn.line) × (l.turn.n ≤ length l.line) × (l.turn.used ≡ 0)
+invariant-loop g l = (length l.line ≡ length l.fn.line) × (l.n ≤ length l.line) × (l.turn.used ≡ 0)

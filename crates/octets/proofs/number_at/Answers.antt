@@ -1,52 +1,31 @@
--- `octets::number_at` meets its contract. The invariant: what has been read is the number in the last i of the n bytes.
+-- `octets::number_at` meets its contract: each turn puts the byte before what has been read below it.
 -- Assumes nothing.
-use Prim.Native.Nat.{ℕ, suc, ◌+◌, ◌-◌, ◌*◌, ◌<◌}
+use Prim.Native.Nat.{◌+◌, ◌-◌}
+use native.Mathlib.Nat.{sub_self}
 use native.Mathlib.Omega.{arith}
-use mathlib.Core.List.{List}
-use mathlib.Core.Path.{◌≡◌, sym}
-use lib.ListN.{get_or}
-use Rattle.octets.specs.Little.{number}
-use Rattle.octets.proofs.Little.{bytes_known, number_none, number_one, number_next, number_within}
+use mathlib.Core.Path.{sym}
+use Rattle.octets.proofs.Little.{bytes_known, number_none, number_one, number_turn, number_within, number_room}
 use Rattle.octets.proofs.number_at.Goals as goal
 
--- one turn
-step : (s : List ℕ) (at n i v : ℕ) → i < n → v ≡ number s (at + (n - i)) i →
-    get_or s (at + (n - (i + 1))) 0 + 256 * v ≡ number s (at + (n - (i + 1))) (i + 1)
-step s at n i v l e =
-    let f : i + 1 ≡ suc i = omega arith in
-    let g : at + (n - suc i) + 1 ≡ at + (n - i) = omega arith in
-    rw (f, number_next s (at + (n - suc i)) i, number_one, g, e)
-
 pub loop-i-init : goal.loop-i-init
-loop-i-init c = let a = c.args in (omega arith, sym (number_none a.s.now (a.at + (a.n - 0))), omega arith)
+loop-i-init c = let a = c.args in rw (sub_self a.n) (sym (number_none a.s.now (a.at + a.n)))
 
-pub loop-i-preserved : goal.loop-i-preserved
-loop-i-preserved c =
-    let l = c.loop-i in
+pub overflow_mul-v : goal.overflow_mul-v
+overflow_mul-v c =
     let a = c.args in
-    let e = step a.s.now a.at a.n l.i l.v (omega arith) l.invariant.1 in
-    let b = bytes_known a.s.now c.type_inv.s in
-    (omega arith, e, omega (arith, e, number_within a.s.now (a.at + (a.n - (l.i + 1))) (l.i + 1) (l.i + 1) b (omega arith)))
+    record { fits = omega (arith, number_room a.s.now a.at a.n c.loop-i.i (bytes_known _ c.type_inv.s) (omega arith) (omega arith)) }
 
 pub overflow_add-v-in-loop-i : goal.overflow_add-v-in-loop-i
 overflow_add-v-in-loop-i c =
-    let l = c.loop-i in
     let a = c.args in
-    let b = bytes_known a.s.now c.type_inv.s in
-    record { fits = omega (arith, (loop-i-preserved c).1, number_within a.s.now (a.at + (a.n - (l.i + 1))) (l.i + 1) 8 b (omega arith)) }
+    record { fits = omega (arith, number_room a.s.now a.at a.n c.loop-i.i (bytes_known _ c.type_inv.s) (omega arith) (omega arith)) }
 
-pub overflow_cast-v : goal.overflow_cast-v
-overflow_cast-v c = record { fits = omega (arith, (overflow_add-v-in-loop-i c).fits) }
-
-pub overflow_mul-v : goal.overflow_mul-v
-overflow_mul-v c = record { fits = omega (arith, (overflow_add-v-in-loop-i c).fits) }
-
-pub returns : goal.returns
-returns c =
-    let l = c.loop-i in
+pub loop-i-preserved : goal.loop-i-preserved
+loop-i-preserved c =
     let a = c.args in
-    let i : l.i ≡ a.n = omega arith in
-    let d : a.at + (a.n - a.n) ≡ a.at = omega arith in record {
-      value = rw (i, d) at l.invariant.1;
-      upper_bound = rw i at l.invariant.2;
-    }
+    number_turn a.s.now a.at a.n c.loop-i.i c.loop-i.v (omega arith) (omega arith) c.loop-i.invariant (sym (number_one a.s.now _))
+
+pub returns-clause-upper_bound : goal.returns-clause-upper_bound
+returns-clause-upper_bound c =
+    let a = c.args in
+    omega (arith, number_within a.s.now (a.at + c.loop-i.i) (a.n - c.loop-i.i) a.n (bytes_known _ c.type_inv.s) (omega arith))

@@ -1,12 +1,9 @@
 -- `octets::padded_at` meets its contract. The invariant: what has been read is the number in the bytes from the i-th of the eight on.
 -- Assumes nothing.
-use Prim.Native.Nat.{◌+◌, ◌-◌, ◌≤◌}
+use Prim.Native.Nat.{◌+◌, ◌-◌}
 use mathlib.Core.Path.{◌≡◌}
 use Rattle.octets.specs.Little.{number}
 use Rattle.octets.proofs.padded_at.Given as goal
 
 abbrev pub invariant-loop-i : goal.invariant-loop-i
-invariant-loop-i l = (l.i ≤ 8) × (l.v ≡ number l.s (l.at + l.i) (8 - l.i))
-
-abbrev pub decreases-loop-i : goal.decreases-loop-i
-decreases-loop-i l = l.i
+invariant-loop-i l = l.v ≡ number l.s (l.at + l.i) (8 - l.i)

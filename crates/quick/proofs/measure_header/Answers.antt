@@ -1,36 +1,43 @@
--- `quick::measure_header` meets its contract: the one number tells number and length apart, as a length is at most 37.
+-- `quick::measure_header` meets its contract: the one number tells lengths and refusals apart, as a length is at most 37.
 -- Assumes nothing.
-use Prim.Native.Nat.{ℕ, ◌-◌, ◌%◌}
+use Prim.Native.Nat.{ℕ, ◌+◌, ◌≤◌}
 use native.Mathlib.Omega.{arith}
 use mathlib.Core.List.{List}
-use mathlib.Core.Path.{◌≡◌, sym, ap, ◌∙◌}
-use borrow.Author.Tests.{ne_eqb}
-use Rattle.octets.specs.{Little.number, Outcome.accepted, Outcome.refused}
-use Rattle.header_bytes.specs.{Layout.header_end, Reading.read_tests, Reading.measured}
+use mathlib.Core.Path.{◌≡◌, sym, ◌∙◌}
+use borrow.Author.Rules.{rules}
+use Rattle.std.specs.Prelude.{Err}
+use Rattle.octets.specs.declared.Refusal.{Refusal}
+use Rattle.octets.specs.declared.Refusal.TheVariants.{Ended, Version, FrameType, AddressMode, NoDestination}
+use Rattle.octets.specs.Outcome.{Outcome, refusal_number, code_of}
+use Rattle.header_bytes.specs.Reading.{measured}
 use Rattle.header_bytes.proofs.Accepted.{measured_most}
-use Rattle.header_bytes.proofs.Passed.{answered_refusal}
-use Rattle.quick.proofs.OneNumber.{by_number, code_accepts, code_refuses}
+use Rattle.quick.proofs.OneNumber.{code_refuses, code_other}
 use Rattle.quick.proofs.measure_header.Goals as goal
 
--- a refusal has length 0
-without : (s : List ℕ) → ((measured s).number ≡ 0 → ⊥) → measured s ≡ refused (measured s).number
-unfolding measured
-without s f =
-    let w = number s 0 2 in
-    answered_refusal refused (read_tests s w) (header_end s w) (accepted (header_end s w)) f
+module _ (s : List ℕ) (code : ℕ) (told : code ≡ code_of (measured s)) where
+  -- the number of a refusal tells it
+  refuses : (r : Refusal) → refusal_number r ≤ 5 → code ≡ 1000 + refusal_number r → ◌≡◌ {A = Outcome} (Err r) (measured s)
+  refuses r few is = let most = measured_most s in code_refuses (measured s) r most.1 most.0 few (sym told ∙ is)
 
-pub returns-then-code-lt1000 : goal.returns-then-code-lt1000
-returns-then-code-lt1000 c =
-    let s = c.args.s.now in
-    let e = c.header_code-code.ensures in
-    c.accepted.ensures ∙ ap accepted e ∙ code_accepts (measured s) (omega (arith, c.if-code-lt1000.true, e))
+  -- and a number from 1000 on that is none of four is the fifth's
+  last : 1000 ≤ code → (code ≡ 1001 → ⊥) → (code ≡ 1002 → ⊥) → (code ≡ 1003 → ⊥) → (code ≡ 1004 → ⊥) →
+      ◌≡◌ {A = Outcome} (Err NoDestination) (measured s)
+  last least a b c d =
+      let most = measured_most s in
+      code_other (measured s) most.1 most.0 (omega (arith, told)) (λ e. a (told ∙ e)) (λ e. b (told ∙ e)) (λ e. c (told ∙ e))
+      (λ e. d (told ∙ e))
 
-pub returns-else-code-lt1000 : goal.returns-else-code-lt1000
-returns-else-code-lt1000 c =
-    let s = c.args.s.now in
-    let e = c.header_code-code.ensures in
-    let most = measured_most s in
-    let other = code_refuses (measured s) most.1 (omega (arith, c.if-code-lt1000.false, e)) in
-    let told = by_number (measured s) (ne_eqb _ 0 other) in
-    let number : (c.header_code-code.result - 1000) % 256 ≡ (measured s).number = omega (arith, e, told, most.0) in
-    c.refused.ensures ∙ ap refused number ∙ sym (without s other)
+pub returns-in-1001 : goal.returns-in-1001
+returns-in-1001 c = refuses _ _ c.header_code-code.ensures Ended (omega arith) c.in-1001.is
+
+pub returns-in-1002 : goal.returns-in-1002
+returns-in-1002 c = refuses _ _ c.header_code-code.ensures Version (omega arith) c.in-1002.is
+
+pub returns-in-1003 : goal.returns-in-1003
+returns-in-1003 c = refuses _ _ c.header_code-code.ensures FrameType (omega arith) c.in-1003.is
+
+pub returns-in-1004 : goal.returns-in-1004
+returns-in-1004 c = refuses _ _ c.header_code-code.ensures AddressMode (omega arith) c.in-1004.is
+
+pub returns-in_default : goal.returns-in_default
+returns-in_default c = search (rules, last c.args.s.now c.header_code-code.result c.header_code-code.ensures)

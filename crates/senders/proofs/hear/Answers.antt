@@ -13,8 +13,7 @@ returns-then-not-fits c =
     let a = c.args in
     let both = heard_unfit a.table.now a.rows a.who a.number (sym c.fits.ensures ∙ not-true _ c.if-not-fits.true-raw) in record {
       table_after = both.0;
-      rows_value = both.1.0;
-      counted_value = both.1.1;
+      value = both.1;
     }
 
 pub row_of-i-requires : goal.row_of-i-requires
@@ -42,8 +41,7 @@ returns-then-not-can_go_on c =
     let both = heard_stuck a.table.now a.rows a.who a.number c.row_of-i.result c.row_of-i.ensures c.row_in-c.result c.if-i-rows.true
     c.row_in-c.ensures (sym c.can_go_on.ensures ∙ not-true _ c.if-not-can_go_on.true-raw) in record {
       table_after = both.0;
-      rows_value = both.1.0;
-      counted_value = both.1.1;
+      value = both.1;
     }
 
 pub again-requires : goal.again-requires
@@ -65,8 +63,7 @@ returns-then-i-rows c =
     let both = heard_known a.table.now a.rows a.who a.number c.row_of-i.result c.row_of-i.ensures c.row_in-c.result c.again.result _
     fit c.if-i-rows.true c.row_in-c.ensures (sym c.can_go_on.ensures ∙ not-false _ c.if-not-can_go_on.false-raw) c.again.ensures c.put_row.ensures in record {
       table_after = both.0;
-      rows_value = both.1.0;
-      counted_value = both.1.1;
+      value = both.1;
     }
 
 pub put_row-requires-then-rows-lt-SENDERS_MOST : goal.put_row-requires-then-rows-lt-SENDERS_MOST
@@ -85,8 +82,7 @@ returns-then-rows-lt-SENDERS_MOST c =
     let both = heard_new a.table.now a.rows a.who a.number c.row_of-i.result c.row_of-i.ensures _ fit c.if-i-rows.false
     (omega (arith, c.if-rows-lt-SENDERS_MOST.true)) (c.put_row-then-rows-lt-SENDERS_MOST.ensures ∙ ap (λ (k : Counted). row_set a.table.now a.rows k) c.first.ensures) in record {
       table_after = both.0;
-      rows_value = both.1.0;
-      counted_value = both.1.1;
+      value = both.1;
     }
 
 pub returns : goal.returns
@@ -94,6 +90,5 @@ returns c =
     let a = c.args in
     let both = heard_full a.table.now a.rows a.who a.number c.row_of-i.result c.row_of-i.ensures c.if-i-rows.false (omega (arith, c.if-rows-lt-SENDERS_MOST.false)) in record {
       table_after = both.0;
-      rows_value = both.1.0;
-      counted_value = both.1.1;
+      value = both.1;
     }

@@ -8,23 +8,18 @@ use Rattle.senders.proofs.row_of.Goals as goal
 
 pub loop-i-init : goal.loop-i-init
 unfolding counted_in place_of
-loop-i-init c = (omega arith, refl)
+loop-i-init c = refl
 
 pub returns-then-is_row_of : goal.returns-then-is_row_of
 returns-then-is_row_of c =
-    let a = c.args in
-    row_found a.who a.table.now c.loop-i.i a.n (omega (arith, c.loop-i-test.true)) c.loop-i.invariant.1
+    row_found c.args.who c.args.table.now c.loop-i.i c.args.n (omega arith) c.loop-i.invariant
     (sym c.is_row_of.ensures ∙ c.if-is_row_of.true)
 
 pub loop-i-preserved : goal.loop-i-preserved
 loop-i-preserved c =
-    let a = c.args in (
-      omega (arith, c.loop-i-test.true),
-      row_not a.who a.table.now c.loop-i.i c.loop-i.invariant.1 (sym c.is_row_of.ensures ∙ c.if-is_row_of.false),
-    )
+    row_not c.args.who c.args.table.now c.loop-i.i c.loop-i.invariant (sym c.is_row_of.ensures ∙ c.if-is_row_of.false)
 
 pub returns : goal.returns
 returns c =
-    let a = c.args in
-    let e : c.loop-i.i ≡ a.n = omega (arith, c.loop-i-test.false, c.loop-i.invariant.0) in
-    rw e at (sym c.loop-i.invariant.1)
+    let e : c.loop-i.i ≡ c.args.n = omega arith in
+    rw e at (sym c.loop-i.invariant)

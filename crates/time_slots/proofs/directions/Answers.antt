@@ -1,46 +1,44 @@
--- `time_slots::directions` meets its contract. The invariant: the byte has the directions from where the loop stands on.
+-- `time_slots::directions` meets its contract. The invariant: behind the slots that are left stand those that the byte has.
 -- Assumes nothing.
 use native.Mathlib.Omega.{arith}
-use mathlib.Core.Path.{◌≡◌, ◌∙◌}
-use Rattle.seven_places.proofs.Seven.{rest_none}
+use mathlib.Core.List.{[], ◌∷◌, ◌++◌, append_assoc, append-nil}
+use mathlib.Core.Path.{refl, sym, ap, ◌∙◌}
+use lib.ListN.{length-take}
 use Rattle.time_slots.specs.TimeSlots.{directions_of}
-use Rattle.time_slots.proofs.TimeSlots.{directions_more, directions_bound}
+use Rattle.time_slots.proofs.TimeSlots.{direction_small, directions_bound, all_passed}
 use Rattle.time_slots.proofs.directions.Goals as goal
 
-pub loop-k-init : goal.loop-k-init
+pub loop-slot-init : goal.loop-slot-init
 unfolding directions_of
-loop-k-init c = (omega arith, rw (rest_none c.args.slots c.args.n c.args.n (omega arith)))
+loop-slot-init c = (tt, tt, ([], rw append-nil (cc), refl))
 
 pub overflow_mul-byte : goal.overflow_mul-byte
 overflow_mul-byte c =
-    let small = directions_bound c.args.slots c.args.n c.loop-k.k (omega arith) (omega arith) in
-    omega (arith, c.loop-k.invariant.1)
+    let passed = c.loop-slot.invariant.2 in
+    let small = directions_bound _ _ _ _ passed.0 (omega (arith, length-take c.args.slots.count c.args.slots.places)) passed.1 c.in-Some.ensures.steps in
+    omega (arith, small, passed.2)
 
 pub overflow_add-byte : goal.overflow_add-byte
 overflow_add-byte c =
-    let small = directions_bound c.args.slots c.args.n c.loop-k.k (omega arith) (omega arith) in
-    omega (arith, c.loop-k.invariant.1, c.to_bit.ensures.upper_bound)
+    let passed = c.loop-slot.invariant.2 in
+    let small = directions_bound _ _ _ _ passed.0 (omega (arith, length-take c.args.slots.count c.args.slots.places)) passed.1 c.in-Some.ensures.steps in
+    omega (arith, small, passed.2, c.from.ensures.0, direction_small c.in-Some.slot.now.direction)
 
-pub loop-k-preserved : goal.loop-k-preserved
-loop-k-preserved c = (
-  omega arith,
-  directions_more c.args.slots c.args.n c.loop-k.k _ (omega (arith, c.well_formed.0.1.0.1)) (omega arith) (omega arith)
-      c.to_bit.ensures.value c.loop-k.invariant.1,
-)
+pub loop-slot-preserved : goal.loop-slot-preserved
+unfolding directions_of
+loop-slot-preserved c =
+    let passed = c.loop-slot.invariant.2 in
+    let slot = c.in-Some.slot.now in (
+      tt,
+      tt,
+      (
+        slot ∷ passed.0,
+        passed.1 ∙ ap (λ l. l ++ passed.0) c.in-Some.ensures.steps ∙ append_assoc c.next.new.self.iter.rest.now (slot ∷ []) passed.0,
+        rw (c.from.ensures.0, passed.2),
+      ),
+    )
 
 pub returns : goal.returns
 returns c =
-    let e : c.loop-k.k ≡ 0 = omega arith in
-    c.loop-k.invariant.1 ∙ rw e
-
-pub overflow_sub-k : goal.overflow_sub-k
-overflow_sub-k c = omega arith
-
-pub offset_bounds-slots-k : goal.offset_bounds-slots-k
-offset_bounds-slots-k c = omega arith
-
-pub bounds-slots-k : goal.bounds-slots-k
-bounds-slots-k c = omega arith
-
-pub loop-k-smaller : goal.loop-k-smaller
-loop-k-smaller c = omega arith
+    let passed = c.loop-slot.invariant.2 in
+    passed.2 ∙ ap directions_of (sym (all_passed _ _ passed.0 c.in-None.ensures.steps.0 passed.1))

@@ -1,13 +1,16 @@
--- `time_slots::directions` meets its contract. The invariant: the byte has the directions from where the loop stands on.
+-- `time_slots::directions` meets its contract. The invariant: behind the slots that are left stand those that the byte has.
 -- Assumes nothing.
-use Prim.Native.Nat.{◌≤◌}
+use mathlib.Core.List.{List, ◌++◌}
 use mathlib.Core.Path.{◌≡◌}
-use lib.ListN.{take, drop}
+use lib.ListN.{take}
+use Rattle.time_slots.specs.declared.GuaranteedTimeSlotDescriptor.{GuaranteedTimeSlotDescriptor}
 use Rattle.time_slots.specs.TimeSlots.{directions_of}
 use Rattle.time_slots.proofs.directions.Given as goal
 
-abbrev pub invariant-loop-k : goal.invariant-loop-k
-invariant-loop-k l = (l.k ≤ l.n) × (l.byte ≡ directions_of (drop l.k (take l.n l.slots)))
-
-abbrev pub decreases-loop-k : goal.decreases-loop-k
-decreases-loop-k l = l.k
+abbrev pub invariant-loop-slot : goal.invariant-loop-slot
+invariant-loop-slot l =
+    (goal.iterator-loop-slot).can_next l.slot-iterator
+    × (goal.iterator-loop-slot).is_finite l.slot-iterator
+    × ((passed : List GuaranteedTimeSlotDescriptor)
+    × (take l.fn.slots.count l.fn.slots.places ≡ l.slot-iterator.iter.rest.now ++ passed)
+    × (l.byte ≡ directions_of passed))

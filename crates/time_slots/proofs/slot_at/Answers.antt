@@ -5,4 +5,4 @@ use Rattle.time_slots.proofs.slot_at.Goals as goal
 
 pub returns : goal.returns
 unfolding slot_at
-returns c = simp (c.at.ensures, c.from_bit-direction.ensures, c.u8_at.ensures)
+returns c = simp (c.at.ensures, c.from-direction.ensures, c.u8_at.ensures)

@@ -1,24 +1,18 @@
--- `alters::telling::put_said` meets its contract: the arrays hold the bits of the frame's list.
+-- `alters::telling::put_said` meets its contract: the list holds the bits of the frame's.
 -- Assumes nothing.
-use native.Mathlib.Omega.{arith}
 use mathlib.Core.List.{[], ◌∷◌, ◌++◌}
+use mathlib.Core.Path.{ap, ◌∙◌}
 use Rattle.labelled.proofs.Putting.{join, same}
+use Rattle.alterations.specs.declared.Alterations.{Alterations}
+use Rattle.alterations.specs.Altered.{alterations}
 use Rattle.alters.specs.Answer.{column, outcome_told, said}
-use Rattle.alters.proofs.Arrays.{Listed, listed}
+use Rattle.alters.specs.Bits.{bits_of}
 use Rattle.alters.proofs.telling.put_said.Goals as goal
 
-pub put_column-next-requires : goal.put_column-next-requires
-put_column-next-requires c =
-    let list : Listed c.args.frame.now c.altered_bits-list.result = listed _ _ c.altered_bits-list.ensures in
-    let l = list in record {
-      count_in_bounds = omega (arith, l.few, l.places);
-      count_in_bounds_2 = omega (arith, l.few, l.masks);
-    }
-
 pub returns : goal.returns
-unfolding said
+unfolding said alterations
 returns c =
-    let list : Listed c.args.frame.now c.altered_bits-list.result = listed _ _ c.altered_bits-list.ensures in
-    let l = list in
-    same (λ i. outcome_told (l.outcome i) ++ (column (l.bits i) ++ (10 ∷ [])))
+    let outcome = ap (λ (a : Alterations). a.outcome) c.altered_bits-list.ensures in
+    let bits = c.as_slice.ensures.value ∙ ap (λ (a : Alterations). a.bytes) c.altered_bits-list.ensures in
+    same (λ i. outcome_told (outcome i) ++ (column (bits_of (bits i)) ++ (10 ∷ [])))
     (join c.put_outcome-next.ensures (join c.put_column-next.ensures c.put_byte.ensures))

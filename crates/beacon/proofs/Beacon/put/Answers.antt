@@ -21,11 +21,11 @@ use Rattle.beacon.proofs.Beacon.put.Goals as goal
 mapped : {A B : Type 0} (f : A → B) (l : List A) (n : ℕ) → length (map f l) ≡ n → length l ≡ n
 mapped f l n e = sym (length-map l f) ∙ e
 
-pub overflow_add-next : goal.overflow_add-next
-overflow_add-next c = omega (arith, c.requires.self_in_bounds)
+pub overflow_add-at : goal.overflow_add-at
+overflow_add-at c = omega (arith, c.requires.self_in_bounds)
 
-pub overflow_add-next-2 : goal.overflow_add-next-2
-overflow_add-next-2 c =
+pub overflow_add-at-3 : goal.overflow_add-at-3
+overflow_add-at-3 c =
     let x = c.args.self in
     let size = c.size.ensures.value ∙ plain_size _ (fitting x c.requires.self_value).slots in
     rw size (omega (arith, c.requires.self_in_bounds))

@@ -11,5 +11,5 @@ pub returns : goal.returns
 unfolding header_bytes
 returns c =
     let addresses = addresses_bytes c.args.self in
-    let behind = stored_on _ _ addresses (length addresses) _ _ refl (c.put_addresses-next.ensures.value, c.put_addresses-next.ensures.out_after) (c.put.ensures.value, c.put.ensures.out_after) in
+    let behind = stored_on _ _ addresses (length addresses) _ _ refl (rw c.pair.ensures at c.put-next.ensures.value, rw c.pair.ensures at c.put-next.ensures.out_after) (c.put_security.ensures.value, c.put_security.ensures.out_after) in
     (stored_on _ _ (fixed_bytes c.args.self) 3 _ _ (fixed_length c.args.self) (c.put_fixed-next.ensures.value, c.put_fixed-next.ensures.out_after) behind).1

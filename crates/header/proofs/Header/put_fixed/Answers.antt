@@ -13,7 +13,7 @@ use Rattle.header.proofs.Header.put_fixed.Goals as goal
 pub returns : goal.returns
 returns c =
     let a = c.args in
-    let word = c.to_bits.ensures ∙ ap control_bits c.written_control-control.ensures in
+    let word = c.from-control.ensures ∙ ap control_bits c.written_control.ensures in
     let both = stored_on _ _ _ 2 _ 1 (split_length 2 _) (c.put-next.ensures.value, c.put-next.ensures.out_after) (c.put.ensures.value, c.put.ensures.out_after) in record {
       value = both.0;
       out_after = both.1 ∙ ap (λ (w : ℕ). laid a.out.now a.at (split 2 w ++ split 1 a.self.seq)) word;

@@ -2,6 +2,7 @@
 -- Assumes nothing.
 use native.Mathlib.Nat.{div-one}
 use Rattle.octets.proofs.Part.{fewer, enough}
+use Rattle.pending.specs.Addresses.{short_at, extended_at}
 use Rattle.pending.specs.Pending.{pending_in, read_pending}
 use Rattle.pending.proofs.PendingAddress.read.Goals as goal
 
@@ -20,14 +21,13 @@ returns-then-left-length c =
     )
 
 pub returns : goal.returns
-unfolding pending_in read_pending
+unfolding pending_in read_pending short_at extended_at
 returns c =
     simp (
       div-one,
       enough c.left.ensures c.if-left-lt1.false,
       enough c.left-2.ensures (rw c.u8_at-header.ensures at c.if-left-length.false),
-      c.accepted.ensures,
-      c.extendeds_at-extended_addresses.ensures,
-      c.shorts_at-short_addresses.ensures,
+      c.addresses_at-extended_addresses.ensures,
+      c.addresses_at-short_addresses.ensures,
       c.u8_at-header.ensures,
     )

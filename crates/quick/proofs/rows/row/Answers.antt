@@ -1,4 +1,5 @@
 -- `quick::rows::row` meets its contract: each row is what the rule gives there, computed at the number of its arm.
+-- The arms are answered one by one: with `unfolding(join)` on the function the check finds them too, but takes minutes for it.
 -- Assumes nothing.
 use Prim.Native.Nat.{ℕ, zero, suc, ◌≤◌}
 use native.Mathlib.Omega.{arith}

@@ -34,7 +34,6 @@ returns c =
       div-one,
       enough c.left.ensures c.if-left-lt1.false,
       enough c.left-2.ensures (rw (c.slots_length.ensures.value, c.u8_at-header.ensures) at c.if-left-slots_length.false),
-      c.accepted.ensures,
       c.slots_length-2.ensures.value,
       c.slots_at-slots.ensures,
       c.u8_at-header.ensures,

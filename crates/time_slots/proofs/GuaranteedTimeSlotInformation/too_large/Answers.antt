@@ -10,4 +10,4 @@ returns-then-self-gt7 c = simp (lt-ltb 7 _ c.if-self-gt7.true)
 
 pub returns : goal.returns
 unfolding time_slots_too_large
-returns c = simp (le-ltb 7 _ c.if-self-gt7.false, c.some_too_large.ensures)
+returns c = simp (le-ltb 7 _ c.if-self-gt7.false, c.some_too_large.ensures, c.slots.ensures)

@@ -1,9 +1,9 @@
 -- `time_slots::GuaranteedTimeSlotInformation::write` meets its contract: the three ends of a writer, and `put` stores where there is room.
 -- Assumes nothing.
 use mathlib.Core.Path.{◌≡◌, refl, ◌∙◌}
-use Rattle.octets.proofs.Value.{too_large, plain, no_room, all_room, stored}
+use Rattle.octets.proofs.Value.{too_large, plain, no_room, stored}
 use Rattle.time_slots.specs.TimeSlots.{time_slots_size, write_time_slots}
-use Rattle.time_slots.proofs.TimeSlots.{plain_size}
+use Rattle.time_slots.proofs.TimeSlots.{fitting, plain_size}
 use Rattle.time_slots.proofs.GuaranteedTimeSlotInformation.write.Goals as goal
 
 pub returns-then-too_large : goal.returns-then-too_large
@@ -25,13 +25,7 @@ returns-then-left-n c =
     }
 
 pub put-requires : goal.put-requires
-unfolding write_time_slots
-put-requires c =
-    let whole : c.size-n.result ≡ time_slots_size c.args.self = c.size-n.ensures.value ∙ plain_size _ (plain c.too_large.ensures c.if-too_large.false) in
-    let both = all_room c.too_large.ensures c.if-too_large.false whole c.left.ensures c.if-left-n.false in record {
-      self_value = both.0;
-      self_in_bounds = both.1;
-    }
+put-requires c = (fitting _ (plain c.too_large.ensures c.if-too_large.false)).0
 
 pub returns : goal.returns
 unfolding write_time_slots

@@ -39,19 +39,19 @@ returns-in-Sourceless c =
       within_2 = both.1.1;
     }
 
-pub returns-then-heard : goal.returns-then-heard
-returns-then-heard c =
+pub returns-in-Some : goal.returns-in-Some
+returns-in-Some c =
     let both = on_counted c.args.counts c.args.table.now c.requires.within (omega (arith, c.if-counts-ge-LINES_MOST.false)) c.args.said c.requires.spoken
-    _ _ c.in-Heard.is c.requires.table_len _ c.hear-heard.ensures.table_after _ c.hear-heard.ensures.rows_value _ c.hear-heard.ensures.counted_value c.if-heard.true in record {
+    _ _ c.in-Heard.is c.requires.table_len _ c.in-Some.ensures.table_after c.in-Some.rows c.in-Some.ensures.value in record {
       table_after = both.0;
       answer_value = both.1.0;
       within_2 = both.1.1;
     }
 
-pub returns-else-heard : goal.returns-else-heard
-returns-else-heard c =
+pub returns-in-None : goal.returns-in-None
+returns-in-None c =
     let both = on_crowded c.args.counts c.args.table.now c.requires.within (omega (arith, c.if-counts-ge-LINES_MOST.false)) c.args.said c.requires.spoken
-    _ _ c.in-Heard.is c.requires.table_len _ c.hear-heard.ensures.table_after _ c.hear-heard.ensures.rows_value _ c.hear-heard.ensures.counted_value c.if-heard.false in record {
+    _ _ c.in-Heard.is c.requires.table_len _ c.in-None.ensures.table_after c.in-None.ensures.value in record {
       table_after = both.0;
       answer_value = both.1.0;
       within_2 = both.1.1;

@@ -8,8 +8,4 @@ use Rattle.labelled.specs.Put.{Put}
 use Rattle.trace.proofs.telling.put_hex.Given as goal
 
 abbrev pub invariant-loop-i : goal.invariant-loop-i
-invariant-loop-i l =
-    (l.i ≤ l.digits) × (length l.out ≡ length l.initial.out) × Put l.initial.out l.at (hex_by (l.digits - l.i) (l.v / 2 ^ (4 * l.i))) l.out l.next
-
-abbrev pub decreases-loop-i : goal.decreases-loop-i
-decreases-loop-i l = l.i
+invariant-loop-i l = Put l.initial.out l.at (hex_by (l.digits - l.i) (l.v / 2 ^ (4 * l.i))) l.out l.next

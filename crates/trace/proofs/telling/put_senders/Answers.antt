@@ -15,33 +15,26 @@ use Rattle.trace.proofs.telling.put_senders.Goals as goal
 
 pub loop-i-init : goal.loop-i-init
 unfolding counted_in flat_map
-loop-i-init c = (omega arith, refl, none _ _)
+loop-i-init c = none _ _
 
 pub put_sender-next-requires : goal.put_sender-next-requires
 put_sender-next-requires c =
     -- the row is in the table
-    let row : (let a = c.args in c.row_at-c.result ≡ counted_at a.table.now c.loop-i.i) = c.row_at-c.ensures ∙ row_there c.args.table.now c.loop-i.i c.requires.table_len (omega (arith, c.loop-i-test.true, c.requires.rows_le_senders_most)) in
+    let row : (let a = c.args in c.row_at.result ≡ counted_at a.table.now c.loop-i.i) = c.row_at.ensures ∙ row_there c.args.table.now c.loop-i.i c.requires.table_len (omega (arith, c.requires.rows_le_senders_most)) in
     let a = c.args in
-    let k = small_at a.counts.lines a.table.now a.counts.rows c.loop-i.i (omega (arith, c.loop-i-test.true)) c.requires.all_small in
+    let k = small_at a.counts.lines a.table.now a.counts.rows c.loop-i.i (omega arith) c.requires.all_small in
     rw row k.octets
 
 pub loop-i-preserved : goal.loop-i-preserved
 loop-i-preserved c =
-    let row : (let a = c.args in c.row_at-c.result ≡ counted_at a.table.now c.loop-i.i) = c.row_at-c.ensures ∙ row_there c.args.table.now c.loop-i.i c.requires.table_len (omega (arith, c.loop-i-test.true, c.requires.rows_le_senders_most)) in
-    let a = c.args in (
-      search rules,
-      c.put_sender-next.auto.out ∙ c.loop-i.invariant.1,
-      same
-          (ap (λ (d : Counted). flat_map sender_line (counted_in a.table.now c.loop-i.i) ++ sender_line d) row
-          ∙ rows_more a.table.now c.loop-i.i)
-          (join c.loop-i.invariant.2 c.put_sender-next.ensures),
-    )
+    let row : (let a = c.args in c.row_at.result ≡ counted_at a.table.now c.loop-i.i) = c.row_at.ensures ∙ row_there c.args.table.now c.loop-i.i c.requires.table_len (omega (arith, c.requires.rows_le_senders_most)) in
+    let a = c.args in
+    same
+    (ap (λ (d : Counted). flat_map sender_line (counted_in a.table.now c.loop-i.i) ++ sender_line d) row ∙ rows_more a.table.now c.loop-i.i)
+    (join c.loop-i.invariant c.put_sender-next.ensures)
 
 pub returns : goal.returns
 returns c =
     let a = c.args in
-    let e : c.loop-i.i ≡ a.counts.rows = omega (arith, c.loop-i.invariant.0, c.loop-i-test.false) in
-    same (ap (λ (n : ℕ). flat_map sender_line (counted_in a.table.now n)) e) c.loop-i.invariant.2
-
-pub shape_of-out : goal.shape_of-out
-shape_of-out c = c.loop-i.invariant.1
+    let e : c.loop-i.i ≡ a.counts.rows = omega arith in
+    same (ap (λ (n : ℕ). flat_map sender_line (counted_in a.table.now n)) e) c.loop-i.invariant

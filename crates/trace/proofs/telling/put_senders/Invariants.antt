@@ -10,8 +10,4 @@ use Rattle.trace.specs.Output.{sender_line}
 use Rattle.trace.proofs.telling.put_senders.Given as goal
 
 abbrev pub invariant-loop-i : goal.invariant-loop-i
-invariant-loop-i l =
-    (l.i ≤ l.counts.rows) × (length l.out ≡ length l.initial.out) × Put l.initial.out l.at (flat_map sender_line (counted_in l.table l.i)) l.out l.next
-
-abbrev pub decreases-loop-i : goal.decreases-loop-i
-decreases-loop-i l = l.counts.rows - l.i
+invariant-loop-i l = Put l.initial.out l.at (flat_map sender_line (counted_in l.table l.i)) l.out l.next

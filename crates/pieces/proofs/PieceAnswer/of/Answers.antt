@@ -1,9 +1,0 @@
--- `pieces::PieceAnswer::of` meets its contract: case by case.
--- Assumes nothing.
-use Rattle.pieces.proofs.PieceAnswer.of.Goals as goal
-
-pub returns-in-Read : goal.returns-in-Read
-returns-in-Read c = rw c.in-Read.is
-
-pub returns-in-Refused : goal.returns-in-Refused
-returns-in-Refused c = rw c.in-Refused.is
