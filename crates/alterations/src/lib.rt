@@ -23,12 +23,13 @@ pub struct AlteredByte {
     pub mask: u8,
 }
 
-// Up to six of them, in the order of the bytes, in an array with a count, since no heap is used. Entries behind these
-// are 0. What notes asks for room and does not test it: no frame has more than six.
+// Up to six of them, in the order of the bytes, in an array with a count, since no heap is used: 16 bytes in all, which
+// are made and copied at once, as a refused frame pays for them too (docs/SPEED.md). Entries behind these are 0. What
+// notes asks for room and does not test it: no frame has more than six.
 #[derive(Clone, Copy)]
 pub struct AlteredBytes {
     bytes: [AlteredByte; 6],
-    count: usize,
+    count: u32,
 }
 
 // Clauses see the list of places and masks.
@@ -63,7 +64,7 @@ impl AlteredBytes {
         ensures value { map pair result.now ≡ self.now }
         ensures upper_bound { length result.now ≤ 6 }
     {
-        &self.bytes[..self.count]
+        &self.bytes[..self.count as usize]
     }
 
     // Notes a byte's place and mask, unless the mask is 0. Asks for room.
@@ -72,7 +73,7 @@ impl AlteredBytes {
         ensures { self.new ≡ self.old ++ altered_at place mask }
     {
         if mask != 0 {
-            self.bytes[self.count] = AlteredByte { place, mask };
+            self.bytes[self.count as usize] = AlteredByte { place, mask };
             self.count += 1;
         }
     }
@@ -187,10 +188,14 @@ pub fn altered_bits(frame: &[u8]) -> Alterations
     ensures { result ≡ alterations frame.now }
 {
     let outcome = rewriting(frame);
-    let mut bytes = AlteredBytes::new();
-    if outcome.is_ok() {
-        bytes.note_frame(frame);
+    if outcome.is_err() {
+        return Alterations {
+            outcome,
+            bytes: AlteredBytes::new(),
+        };
     }
+    let mut bytes = AlteredBytes::new();
+    bytes.note_frame(frame);
     Alterations { outcome, bytes }
 }
 

@@ -4,11 +4,13 @@
 
 mod telling;
 
-ghost use Rattle.std.specs.Prelude.{◌≡◌, []};
+ghost use Rattle.std.specs.Prelude.{ℕ, ◌≡◌, List, []};
 ghost use Rattle.std.proofs.Common.{refl, rules};
 ghost use Rattle.hexadecimal.specs.Hex.{worths};
 ghost use Rattle.labelled.proofs.Answer.{answer_front};
-ghost use Rattle.line_cutter.specs.Answers.{stays, tells};
+ghost use Rattle.line_cutter.specs.Answers.{stays, tells, output};
+ghost use Rattle.line_cutter.specs.Lines.{joined};
+ghost use Rattle.line_teller.specs.Written.{written};
 ghost use Rattle.alters.specs.Answer.{said, answer};
 
 use hexadecimal::values;
@@ -28,6 +30,17 @@ const ROOM: usize = KEPT_MOST + 250 * CHUNK;
 struct Alters {
     values: [u16; 256],
     ghost by_worth: { values ≡ worths 256 },
+}
+
+impl Alters {
+    // Whatever drives it writes the answers to the lines of its input, however that is cut into chunks.
+    fn new() -> Alters
+        ensures { (cs : List (List ℕ)) → written ⟦<Alters as Teller>⟧.step ⟦<Alters as Teller>⟧.says
+            ⟦<Alters as Teller>⟧.closes (⟦<Alters as Teller>⟧.state result) cs
+            ≡ output answer (joined cs) }
+    {
+        Alters { values: values() }
+    }
 }
 
 // As for `lines::Frames`: a trait between would name the same members once more.
@@ -62,6 +75,5 @@ impl Teller for Alters {
 }
 
 fn main(rt: HostRuntime) {
-    let mut alters = Alters { values: values() };
-    drive::<Alters, CHUNK, ROOM>(&rt, &mut alters);
+    drive::<Alters, CHUNK, ROOM>(&rt, &mut Alters::new());
 }

@@ -24,9 +24,10 @@ fn value(b: u8) -> u16
 pub fn values() -> [u16; 256]
     ensures { result ≡ worths 256 }
 {
-    let mut table = [0u16; 256];
-    for b in 0..256 {
-        table[b] = value(b as u8);
+    let mut table = [256; 256];
+    // A byte that is no digit counts as any other: only the digits are looked at.
+    for b in b"0123456789ABCDEFabcdef" {
+        table[*b as usize] = value(*b);
     }
     table
 }

@@ -2,14 +2,15 @@
 // form, read and written as a part of a slice at a place.
 #![tactic(auto)]
 
-ghost use Rattle.std.specs.Prelude.{ℕ, ◌-◌, ◌^◌, ◌≡◌, refl};
+ghost use Rattle.std.specs.Prelude.{ℕ, ◌-◌, ◌^◌, ◌≡◌, List, Result, refl};
 ghost use Rattle.octets.specs.Buffer.{after};
 ghost use Rattle.octets.specs.Little.{number, split};
 ghost use Rattle.octets.specs.Part.{write_part};
+ghost use Rattle.octets.specs.declared.Refusal.{Refusal};
 ghost use Rattle.identifiers.specs.Identifier.{read_identifier};
-ghost use Rattle.identifiers.specs.PanId.{pan};
-ghost use Rattle.identifiers.specs.ShortAddress.{short};
-ghost use Rattle.identifiers.specs.ExtendedAddress.{extended};
+ghost use Rattle.identifiers.specs.PanId.{pan, read_pan_id};
+ghost use Rattle.identifiers.specs.ShortAddress.{short, read_short};
+ghost use Rattle.identifiers.specs.ExtendedAddress.{extended, read_extended};
 
 use octets::{Outcome, Refusal, left, u16_at, u64_at, write_number};
 
@@ -25,6 +26,9 @@ pub trait Identifier: Copy {
 
     ghost value: { Self → ℕ };
 
+    // What reading one answers.
+    ghost reading: { List ℕ → ℕ → Result Self Refusal };
+
     // The identifier in the bytes at a place, those past the end 0.
     fn at(s: &[u8], at: usize) -> Self
         ensures { result ≡ of (number s.now at WIDTH) };
@@ -37,7 +41,7 @@ pub trait Identifier: Copy {
         ensures { result ≡ of (256 ^ WIDTH - 1) };
 
     fn read(s: &[u8], at: usize) -> Result<Self, Refusal>
-        ensures { result ≡ read_identifier WIDTH of s.now at }
+        ensures { result ≡ reading s.now at }
     {
         if left(s, at) < Self::WIDTH {
             return Err(Refusal::Ended);
@@ -53,6 +57,8 @@ pub trait Identifier: Copy {
     }
 
     ghost value_of: { (n : ℕ) → value (of n) ≡ n };
+
+    ghost reads: { (s : List ℕ) (at : ℕ) → reading s at ≡ read_identifier WIDTH of s at };
 }
 
 #[derive(Clone, Copy, Debug, PartialEq, Eq)]
@@ -71,7 +77,11 @@ impl Identifier for PanId {
 
     ghost value = { λ x. x.0 };
 
+    ghost reading = { read_pan_id };
+
     ghost value_of = { λ n. refl };
+
+    ghost reads = { λ s at. refl };
 
     fn broadcast() -> Self {
         Self::BROADCAST
@@ -102,7 +112,11 @@ impl Identifier for ShortAddress {
 
     ghost value = { λ x. x.0 };
 
+    ghost reading = { read_short };
+
     ghost value_of = { λ n. refl };
+
+    ghost reads = { λ s at. refl };
 
     fn broadcast() -> Self {
         Self::BROADCAST
@@ -133,7 +147,11 @@ impl Identifier for ExtendedAddress {
 
     ghost value = { λ x. x.0 };
 
+    ghost reading = { read_extended };
+
     ghost value_of = { λ n. refl };
+
+    ghost reads = { λ s at. refl };
 
     fn broadcast() -> Self {
         Self::BROADCAST

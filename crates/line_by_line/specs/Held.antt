@@ -13,6 +13,10 @@ answer_most = 4096
 abbrev pub unused : Turn → List ℕ → List ℕ
 unused t chunk = drop t.at (take t.end chunk)
 
+-- a run that has used what was taken of the chunk
+abbrev pub past : Turn → Taken → Turn
+past t k = record { found = t.found; used = t.used; at = k.at; end = t.end; next = t.next }
+
 -- a run where a line has ended
 abbrev pub found : Turn → Taken → Turn
 found t k = record { found = Some k.n; used = t.used; at = k.at; end = t.end; next = t.next }

@@ -6,7 +6,7 @@
 
 ghost use Rattle.std.specs.Prelude.{◌≤◌, ◌≡◌, IfSome, length};
 ghost use Rattle.line_cutter.specs.Line.{taken};
-ghost use Rattle.line_by_line.specs.Held.{unused, line_after, found, Roomy, Ready, HandsOver};
+ghost use Rattle.line_by_line.specs.Held.{unused, line_after, past, found, Roomy, Ready, HandsOver};
 
 use line_cutter::{KEPT_MOST, Taken, cut};
 use line_io::{Next, read_some, write_all};
@@ -39,14 +39,23 @@ impl Turn {
         next: Next::More,
     };
 
+    // What was taken of the chunk is used, whether or not more of the input can be had.
+    fn past(self, taken: Taken) -> Self
+        ensures { result ≡ past self taken }
+    {
+        Turn {
+            at: taken.at,
+            ..self
+        }
+    }
+
     // A line has ended in the chunk.
     fn with_line(self, taken: Taken) -> Self
         ensures { result ≡ found self taken }
     {
         Turn {
             found: Some(taken.n),
-            at: taken.at,
-            ..self
+            ..self.past(taken)
         }
     }
 }
@@ -133,7 +142,7 @@ fn read_on(
             return turn.with_line(taken);
         }
         n = taken.n;
-        turn = refill(rt, turn, chunk, out);
+        turn = refill(rt, turn.past(taken), chunk, out);
     }
     let ended = turn.next == Next::Ended && n > 0;
     Turn {
@@ -162,7 +171,7 @@ pub fn next_line(
     if taken.ended {
         return ready.with_line(taken);
     }
-    read_on(rt, ready, taken.n, chunk, line, out)
+    read_on(rt, ready.past(taken), taken.n, chunk, line, out)
 }
 
 // Answers each line of standard input by what is lent: it is handed a line without its line feed, as much of it as is

@@ -74,7 +74,7 @@ module _ (answer : List ℕ → List ℕ) where
   last_some (b ∷ l) h = sym (append-nil (answer (b ∷ l)))
 
   -- what the chunks write is the same too
-  printed_told : (s : Unit {0}) (l : List ℕ) (cs : List (List ℕ)) → printed answer l cs ≡ told_in_chunks stays (tells answer) s l cs
+  pub printed_told : (s : Unit {0}) (l : List ℕ) (cs : List (List ℕ)) → printed answer l cs ≡ told_in_chunks stays (tells answer) s l cs
   unfolding printed told_in_chunks
   printed_told s l [] = answers_told s (last l)
   printed_told s l (c ∷ cs) = rw (answers_told s (ended l c), printed_told (run stays s (ended l c)) (take kept_most (begun l c)) cs)

@@ -3,7 +3,9 @@
 // write fails, no contract can say.
 #![tactic(auto)]
 
+ghost use Rattle.std.specs.Prelude.{◌≡◌};
 ghost use Rattle.line_io.specs.Counts.{IsPrefixLen};
+ghost use Rattle.line_io.specs.Numbers.{next_of};
 
 use std::io::{Error, ErrorKind, Read};
 
@@ -13,6 +15,19 @@ pub enum Next {
     More,
     Ended,
     Failed,
+}
+
+// Any number is taken: 0 stands for more, 1 for the end, and every other for an error that was told.
+impl From<u8> for Next {
+    ghost from_gives = { λ number next. next ≡ next_of number };
+
+    fn from(number: u8) -> Self {
+        match number {
+            0 => Next::More,
+            1 => Next::Ended,
+            _ => Next::Failed,
+        }
+    }
 }
 
 // How many bytes were read, and what comes next. The count is no part of `More`: so many are fed, whatever comes next.

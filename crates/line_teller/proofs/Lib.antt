@@ -1,3 +1,4 @@
 pub mod Room
 pub mod Ends
 pub mod Quickly
+pub mod Written

@@ -4,7 +4,6 @@ use Rattle.std.proofs.Common.{ℕ, ◌+◌, ◌-◌, ◌*◌, ◌≤◌, ◌<◌
 use borrow.Author.Tests.{ltb-true}
 use lib.ListN.{length-drop}
 use lib.Seq.{drop-drop}
-use Rattle.octets.proofs.Stored.{same}
 use Rattle.line_cutter.specs.Answers.{Onward}
 use Rattle.line_cutter.specs.Line.{line_of, behind}
 use Rattle.line_cutter.specs.Telling.{worked_to}

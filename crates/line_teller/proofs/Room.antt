@@ -1,6 +1,6 @@
 -- Room for what is written for the lines of a chunk: a line and m bytes more for each have room in m for each byte.
 -- Assumes nothing.
-use Rattle.std.proofs.Common.{ℕ, zero, suc, ◌+◌, ◌-◌, ◌*◌, ◌≤◌, ◌<◌, ◌≡◌, arith, ap, sym, ◌∙◌}
+use Rattle.std.proofs.Common.{ℕ, zero, suc, ◌+◌, ◌-◌, ◌*◌, ◌≤◌, ◌<◌, ◌≡◌, arith, ap, ◌∙◌}
 use Rattle.std.proofs.Math.Nat.{mul-suc, mul-add}
 
 many : (m k : ℕ) → 0 < m → k ≤ m * k

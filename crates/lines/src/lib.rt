@@ -4,12 +4,14 @@
 
 mod one_line;
 
-ghost use Rattle.std.specs.Prelude.{◌≤◌, ◌≡◌, [], length};
+ghost use Rattle.std.specs.Prelude.{ℕ, ◌≤◌, ◌≡◌, List, [], length};
 ghost use Rattle.std.proofs.Common.{refl, rules};
 ghost use Rattle.octets.specs.Stored.{Stored};
 ghost use Rattle.hexadecimal.specs.Hex.{worths};
 ghost use Rattle.labelled.proofs.Answer.{answer_front};
-ghost use Rattle.line_cutter.specs.Answers.{stays, tells};
+ghost use Rattle.line_cutter.specs.Answers.{stays, tells, output};
+ghost use Rattle.line_cutter.specs.Lines.{joined};
+ghost use Rattle.line_teller.specs.Written.{written};
 ghost use Rattle.lines.specs.Answer.{said, answer};
 ghost use Rattle.lines.specs.Chunks.{takes, feeding, ending};
 
@@ -39,7 +41,12 @@ pub struct Frames {
 }
 
 impl Frames {
-    pub fn new() -> Frames {
+    // Whatever drives it writes the answers to the lines of its input, however that is cut into chunks.
+    pub fn new() -> Frames
+        ensures { (cs : List (List ℕ)) → written ⟦<Frames as Teller>⟧.step ⟦<Frames as Teller>⟧.says
+            ⟦<Frames as Teller>⟧.closes (⟦<Frames as Teller>⟧.state result) cs
+            ≡ output answer (joined cs) }
+    {
         Frames {
             values: values(),
             frame: [0; FRAME_MOST],

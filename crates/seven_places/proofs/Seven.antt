@@ -11,6 +11,7 @@ use borrow.Author.Tests.{lt-ltb, ltb-true}
 use lib.Dec.{ltb}
 use lib.ListN.{length, get_or, set, replicate, take, drop, drop_of_length-le, length-append, length-take}
 use lib.Seq.{length-take-le, drop-cons, get_or-take}
+use Rattle.std.proofs.lemmas.List.{take_min}
 use Rattle.std.specs.List.{list_any}
 use Rattle.octets.specs.Buffer.{laid}
 use Rattle.octets.proofs.Buffer.{laid_none, stored_on}
@@ -189,6 +190,14 @@ module _ {A : Type 0} where
   taken_none l zero h = refl
   taken_none [] (suc n) h = refl
   taken_none (x ∷ l) (suc n) h = absurd (omega (arith, h (omega arith)))
+
+  -- the first n of seven are the first m, where n is cut to seven
+  pub at_most_seven : (l : List A) (n : ℕ) {m : ℕ} → length l ≡ 7 → m ≡ min n 7 → take m l ≡ take n l
+  at_most_seven l n full cut = rw (cut, sym full) (take_min n l)
+
+  -- what is left of a list from entry i on: entry i and what is left behind it
+  pub left_next : (l : List A) (i : ℕ) (x : A) → i < length l → x ≡ get_or l i x → drop i l ≡ x ∷ drop (i + 1) l
+  left_next l i x h e = rw (drop-cons l i x h, sym e, add-one i)
 
   -- how many bytes entries of w bytes take
   pub all_length : (bytes : A → List ℕ) (w : ℕ) → ((x : A) → length (bytes x) ≡ w) → (l : List A) → length (flat_map bytes l) ≡ w * length l

@@ -10,6 +10,7 @@ use Rattle.line_cutter.specs.Lines.{ended, begun, lines, run, joined, in_chunks}
 use Rattle.line_cutter.specs.Telling.{told, told_in_chunks}
 use Rattle.line_cutter.proofs.Lines.{however_cut}
 use Rattle.line_cutter.proofs.Telling.{told_whole}
+use Rattle.line_teller.specs.Written.{written}
 use Rattle.trace.specs.Plain.{Trace}
 use Rattle.trace.specs.Output.{summary, output}
 use Rattle.trace.specs.Steps.{untold, step_on, says, closing, printed}
@@ -33,3 +34,8 @@ trace_printed cs =
     ∙ ap (λ (s : List ℕ). s ++ summary (in_chunks step_on kept_most untold [] cs)) (told_whole step_on says step_sees says_sees untold cs)
     ∙ ap (λ (t : Trace). told step_on says untold (lines (joined cs)) ++ summary t) (however_cut step_on kept_most (omega arith) step_sees untold cs)
     ∙ output_told (lines (joined cs))
+
+-- the same of what its `Teller` says is written
+pub trace_written : (cs : List (List ℕ)) → written step_on says summary untold cs ≡ output (lines (joined cs))
+unfolding written
+trace_written cs = sym (in_chunks_lem cs untold []) ∙ trace_printed cs

@@ -6,14 +6,16 @@
 mod counting;
 mod telling;
 
-ghost use Rattle.std.specs.Prelude.{◌+◌, ◌≤◌, ◌≡◌, length};
+ghost use Rattle.std.specs.Prelude.{ℕ, ◌+◌, ◌≤◌, ◌≡◌, List, length};
 ghost use Rattle.std.proofs.Common.{rules};
 ghost use Rattle.octets.specs.Stored.{Stored};
 ghost use Rattle.hexadecimal.specs.Hex.{worths};
+ghost use Rattle.line_cutter.specs.Lines.{lines, joined};
+ghost use Rattle.line_teller.specs.Written.{written};
 ghost use Rattle.senders.specs.Table.{table_length};
 ghost use Rattle.trace_line.specs.Saying.{saying, Spoken};
 ghost use Rattle.trace.specs.Plain.{Trace};
-ghost use Rattle.trace.specs.Output.{summary};
+ghost use Rattle.trace.specs.Output.{summary, output};
 ghost use Rattle.trace.specs.Steps.{step_on, says};
 ghost use Rattle.trace.specs.State.{trace_of, step_said};
 ghost use Rattle.trace.specs.Within.{Within};
@@ -72,8 +74,13 @@ struct Tracing {
 }
 
 impl Tracing {
-    // Nothing is read yet.
-    fn new() -> Tracing {
+    // Nothing is read yet. Whatever drives it writes what is told of the lines of its input, and then the counts, however
+    // that is cut into chunks.
+    fn new() -> Tracing
+        ensures { (cs : List (List ℕ)) → written ⟦<Tracing as Teller>⟧.step ⟦<Tracing as Teller>⟧.says
+            ⟦<Tracing as Teller>⟧.closes (⟦<Tracing as Teller>⟧.state result) cs
+            ≡ output (lines (joined cs)) }
+    {
         Tracing {
             counts: Counts::NONE,
             table: [0; TABLE],

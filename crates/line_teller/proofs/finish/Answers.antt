@@ -1,6 +1,6 @@
 -- `line_teller::finish` meets its contract: without a byte there is no last line.
 -- Assumes nothing.
-use Rattle.std.proofs.Common.{ℕ, ◌<◌, ◌≡◌, length, take, ap, ◌∙◌, arith}
+use Rattle.std.proofs.Common.{◌<◌, length, take, ap, ◌∙◌, arith}
 use lib.Seq.{length-take-le}
 use Rattle.octets.proofs.Stored.{none, join, same}
 use Rattle.line_teller.proofs.Ends.{run_none, told_none, run_some, told_some}

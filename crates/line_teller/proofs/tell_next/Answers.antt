@@ -1,7 +1,7 @@
 -- `line_teller::tell_next` meets its contract: a line that was told from where it lies leads on.
 -- Assumes nothing.
-use Rattle.std.proofs.Common.{ℕ, ◌≡◌, length, arith}
-use Rattle.line_teller.proofs.Quickly.{quick_after, quick_onward, quick_room}
+use Rattle.std.proofs.Common.{◌≡◌, arith}
+use Rattle.line_teller.proofs.Quickly.{quick_after, quick_room}
 use Rattle.line_teller.proofs.tell_next.Goals as goal
 
 pub returns-in-Some-clause-after : goal.returns-in-Some-clause-after

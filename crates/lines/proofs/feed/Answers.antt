@@ -1,7 +1,7 @@
 -- `lines::feed` meets its contract: a chunk that is not taken leaves all as it was; of one that is, what is kept of the next line stays,
 -- and zeros are stored behind it.
 -- Assumes nothing.
-use Rattle.std.proofs.Common.{ℕ, ◌-◌, ◌≤◌, ◌≡◌, List, [], length, take, drop, replicate, sym, ap, ◌∙◌, arith}
+use Rattle.std.proofs.Common.{ℕ, ◌-◌, ◌≡◌, List, [], length, take, drop, replicate, sym, ap, ◌∙◌, arith}
 use borrow.Rule.Slice.PartMut.{post_of}
 use mathlib.Core.List.{append-nil}
 use lib.ListN.{length-drop, drop_of_length-le}
@@ -12,7 +12,6 @@ use Rattle.octets.proofs.Stored.{front}
 use Rattle.line_cutter.specs.Answers.{fed_to}
 use Rattle.line_cutter.proofs.Answers.{left, fed_worked}
 use Rattle.lines.specs.Answer.{answer}
-use Rattle.lines.specs.Chunks.{takes}
 use Rattle.lines.proofs.Chunks.{line_long, few_kept, room_there, fed_refused, fed_taken}
 use Rattle.lines.proofs.feed.Goals as goal
 

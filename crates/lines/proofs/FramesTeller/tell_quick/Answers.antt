@@ -1,6 +1,6 @@
 -- `lines::Frames` tells a line from where it lies: what its tests show is what makes a line that is whole and not bad.
 -- Assumes nothing.
-use Rattle.std.proofs.Common.{ℕ, ◌+◌, ◌-◌, ◌*◌, ◌≤◌, ◌≡◌, List, ◌++◌, true, length, take, drop, sym, ap, ◌∙◌, arith}
+use Rattle.std.proofs.Common.{ℕ, ◌+◌, ◌-◌, ◌*◌, ◌≡◌, List, ◌++◌, true, take, drop, sym, ap, ◌∙◌}
 use Rattle.hexadecimal.proofs.Hex.{Decoding, decoding}
 use Rattle.lines.specs.Answer.{said}
 use Rattle.line_cutter.specs.Line.{is_at}

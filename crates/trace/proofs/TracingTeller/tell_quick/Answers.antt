@@ -1,6 +1,6 @@
 -- `trace::Tracing` tells a line from where it lies: what its tests show is what makes a line that is whole.
 -- Assumes nothing.
-use Rattle.std.proofs.Common.{◌≤◌, ◌<◌, ◌≡◌, true, length, sym, ◌∙◌, arith}
+use Rattle.std.proofs.Common.{◌≡◌, true, length, sym, ◌∙◌, arith}
 use Rattle.std.specs.Prelude.{Some}
 use Rattle.octets.proofs.Little.{bytes_known}
 use Rattle.line_cutter.specs.Line.{is_at}

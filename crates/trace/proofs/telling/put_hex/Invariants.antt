@@ -1,8 +1,6 @@
 -- `trace::telling::put_hex` meets its contract. The invariant: the digits above the one at hand are stored.
 -- Assumes nothing.
-use Prim.Native.Nat.{◌-◌, ◌*◌, ◌/◌, ◌^◌, ◌≤◌}
-use mathlib.Core.Path.{◌≡◌}
-use lib.ListN.{length}
+use Prim.Native.Nat.{◌-◌, ◌*◌, ◌/◌, ◌^◌}
 use Rattle.labelled.specs.Hexed.{hex_by}
 use Rattle.labelled.specs.Put.{Put}
 use Rattle.trace.proofs.telling.put_hex.Given as goal

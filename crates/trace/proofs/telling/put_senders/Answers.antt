@@ -3,8 +3,7 @@
 use Prim.Native.Nat.{ℕ}
 use native.Mathlib.Omega.{arith}
 use mathlib.Core.List.{◌++◌, flat_map}
-use mathlib.Core.Path.{◌≡◌, refl, ap, ◌∙◌}
-use borrow.Author.Rules.{rules}
+use mathlib.Core.Path.{◌≡◌, ap, ◌∙◌}
 use Rattle.senders.specs.declared.Counted.{Counted}
 use Rattle.senders.specs.Table.{counted_at, counted_in}
 use Rattle.senders.proofs.Rows.{row_there}

@@ -1,9 +1,6 @@
 -- `trace::telling::put_senders` meets its contract. The invariant: the lines of the rows before the one at hand are stored.
 -- Assumes nothing.
-use Prim.Native.Nat.{◌-◌, ◌≤◌}
 use mathlib.Core.List.{flat_map}
-use mathlib.Core.Path.{◌≡◌}
-use lib.ListN.{length}
 use Rattle.senders.specs.Table.{counted_in}
 use Rattle.labelled.specs.Put.{Put}
 use Rattle.trace.specs.Output.{sender_line}

@@ -1,6 +1,6 @@
 -- `line_teller::Kept::of` meets its contract: there is room for all of the bytes.
 -- Assumes nothing.
-use Rattle.std.proofs.Common.{ℕ, ◌≤◌, ◌≡◌, length, take, ap, ◌∙◌, arith}
+use Rattle.std.proofs.Common.{◌≡◌, length, take, ap, ◌∙◌, arith}
 use Rattle.octets.specs.Buffer.{laid, fitting}
 use Rattle.octets.proofs.Copying.{fitting_all}
 use Rattle.octets.proofs.Stored.{front}
