@@ -16,6 +16,12 @@ pub struct Decimal {
 fn appended(value: Option<u64>, digit: u8) -> Option<u64>
     ensures { result ≡ appended value digit }
 {
+    // Where the number is far from 2^64 there is nothing to check.
+    if let Some(n) = value {
+        if n < u64::MAX / 16 {
+            return Some(10 * n + u64::from(digit));
+        }
+    }
     value?.checked_mul(10)?.checked_add(u64::from(digit))
 }
 
